@@ -1,0 +1,83 @@
+//! The answer to a job.
+ghost use Prim.Native.Nat.{_≤_};
+ghost use lib.ListN.{length};
+use crate::decode::mailbox_of;
+use crate::decode::table_rows;
+use crate::run::run;
+use crate::stop::Stop;
+use crate::stop::StopFromJob;
+use crate::stop::StopFromMemory;
+use crate::stop::StopFromSystem;
+use job::Job;
+use job::read_job;
+use std::alloc::Global;
+use systems::actions::ActionSet;
+use systems::hiding::Hiding;
+use systems::hiding::HidingSystem;
+use systems::kept::Kept;
+use systems::kept::KeptSystem;
+use systems::mailbox::Mailbox;
+use systems::mailbox::MailboxSystem;
+use systems::product::Product;
+use systems::product::ProductSystem;
+use systems::system::System;
+use systems::table::Table;
+use systems::table::TableSystem;
+
+/// Runs the job on the system, with the job's actions hidden if it has some to hide.
+fn run_hidden<S: System + Drop>(heap: Global, job: &Job<'_>, system: S) -> Result<Vec<u8>, Stop>
+    requires { ⌜ length (now (now job .formulas)) ≤ 320 ⌝ }
+{
+    let Some(actions) = hidden_actions(job) else {
+        return run(heap, job, &system);
+    };
+    run(heap, job, &Hiding { system, actions })
+}
+
+/// The actions that the job hides.
+fn hidden_actions(job: &Job<'_>) -> Option<ActionSet> {
+    ActionSet::from_bytes(job.hiding?)
+}
+
+/// Runs the job on the product of its table with its mailbox.
+fn run_joined(heap: Global, job: &Job<'_>, table: Table<'_>, body: &[u8]) -> Result<Vec<u8>, Stop>
+    requires { ⌜ length (now (now job .formulas)) ≤ 320 ⌝ }
+{
+    match mailbox_of(body) {
+        Some(decoded) => {
+            let (right, shared) = decoded;
+            let product = Product {
+                left: table,
+                right,
+                shared,
+            };
+            product.check()?;
+            run_hidden(heap, job, Kept::new(product))
+        }
+        None => run_hidden(heap, job, table),
+    }
+}
+
+/// The report of a job, or why there is none.
+pub fn report_of(heap: Global, bytes: &[u8]) -> Result<Vec<u8>, Stop> {
+    let job = read_job(bytes)?;
+    let rows = table_rows(heap, job.table)?;
+    let table = Table {
+        count: job.states as usize,
+        start: job.start as usize,
+        rows: &rows,
+    };
+    table.check()?;
+    match job.mailbox {
+        Some(body) => run_joined(heap, &job, table, body),
+        None => run_hidden(heap, &job, table),
+    }
+}
+
+/// The answer to a job: its report, or the record of its first fault.
+pub fn answer(heap: Global, bytes: &[u8]) -> Result<Vec<u8>, Stop> {
+    match report_of(heap, bytes) {
+        Err(Stop::Faulty(fault)) => Ok(Vec::from_slice(heap, &fault.record())?),
+        other => other,
+    }
+}

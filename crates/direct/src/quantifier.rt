@@ -1,0 +1,8 @@
+//! Path quantifiers.
+
+/// Some full path, or every one.
+#[derive(Clone, Copy)]
+pub enum Quantifier {
+    Exists,
+    Always,
+}

@@ -1,0 +1,4 @@
+pub mod Fields
+pub mod Parse
+pub mod Reading
+pub mod Shown

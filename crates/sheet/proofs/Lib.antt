@@ -1,0 +1,4 @@
+mod Clear
+mod Filled
+mod Shown
+mod Written
