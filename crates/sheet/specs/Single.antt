@@ -1,5 +1,5 @@
 -- What a single call does.
-use Prim.Native.Nat.{ℕ, _+_, _*_}
+use Prim.Native.Nat.{ℕ, _+_, _*_, _<_}
 use mathlib.Core.Bool.{Bool}
 use mathlib.Core.List.{List, []}
 use mathlib.Core.Path.{_≡_}
@@ -7,6 +7,7 @@ use lib.Dec.{eqb}
 use lib.ListN.{length, getD, take, drop}
 use Rattle.std.specs.declared.option.Option.{Option}
 use Rattle.std.specs.declared.option.Option.the-variants.{Some}
+use Rattle.std.specs.Of.Vec.{vec-len}
 use Rattle.std.specs.shelf.Maps.{nth}
 use Rattle.logic.specs.declared.rows.ActionRow.{ActionRow}
 use Rattle.logic.specs.declared.rows.FormulaRow.{FormulaRow}
@@ -32,6 +33,10 @@ columnOf b cs r = take (b .n) (drop (r * b .n) cs)
 -- Whether row r says yes at state s: the byte is 1.
 abbrev pub marked : Book → List ℕ → ℕ → ℕ → Bool
 marked b cs r s = eqb (getD cs (r * b .n + s) 0) 1
+
+-- The row is finished, and the columns reach to its byte of the state.
+abbrev pub Readable : Sheet → (columns row state : ℕ) → Type 0
+Readable x columns row state = (row < vec-len (x .finished)) × (state < x .n) × (row * x .n + state < columns)
 
 -- The answer of a read: the verdict on a row at a state, and the row's rounds.
 abbrev pub Verdict : Sheet → List ℕ → (row state : ℕ) → (Bool × ℕ) → Type 0

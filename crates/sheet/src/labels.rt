@@ -1,10 +1,13 @@
 //! Rows are labelled.
 ghost use mathlib.Core.Path.{_≡_};
+ghost use mathlib.Core.List.{[], _∷_, _++_};
+ghost use Prim.Native.Nat.{_<_};
 ghost use lib.ListN.{length, replicate};
 ghost use Rattle.std.specs.declared.option.Option.the-variants.{None};
 ghost use Rattle.faults.specs.Refusal.{Outcome};
 ghost use Rattle.logic.specs.declared.route.Route.the-variants.{Direct};
-ghost use Rattle.sheet.specs.Book.{shown};
+ghost use Rattle.std.specs.Of.Vec.{vec-len};
+ghost use Rattle.sheet.specs.Book.{shown, roundsOf, finishing};
 ghost use Rattle.sheet.specs.Refusals.{refusal-direct};
 ghost use Rattle.sheet.specs.Labelling.{Fills, Finishes};
 use crate::state::Finish;
@@ -24,7 +27,7 @@ impl Sheet {
         columns: usize,
         scratch: usize,
     ) -> Result<(), SheetFault>
-        ensures { λ r. ⌜ Outcome r (refusal-direct (S·System .meaning (now (system .entry))) (shown (now (self .entry))) columns scratch) (Unit {0}) (λ _. Unit {0}) ⌝ }
+        ensures { λ r. ⌜ Outcome r (refusal-direct (S·System .meaning (now (system .entry))) (shown (now (self .entry))) columns scratch) (Unit {0}) (λ _. vec-len (now (self .entry) .finished) < vec-len (now (self .entry) .rows)) ⌝ }
     {
         let row = self.finished.len();
         let place = row as u32;
@@ -64,6 +67,15 @@ impl Sheet {
         }
     }
 
+    /// Finishes the first unfinished row by a route in so many rounds.
+    fn finish(&mut self, route: Route, rounds: u16)
+        requires { ⌜ vec-len (now self .finished) < vec-len (now self .rows) ⌝ }
+        ensures book { λ _. ⌜ shown (now (self .exit)) ≡ finishing route (shown (now (self .entry))) ⌝ }
+        ensures rounds { λ _. ⌜ roundsOf (now (self .exit)) ≡ roundsOf (now (self .entry)) ++ rounds ∷ [] ⌝ }
+    {
+        self.finished.push_reserved(Finish { route, rounds });
+    }
+
     /// Labels the first unfinished row on the system itself, finishes it, and answers its rounds.
     pub fn direct<S: System>(
         &mut self,
@@ -77,10 +89,7 @@ impl Sheet {
         let guard = Wiped { bytes: scratch };
         self.admit_direct(system, columns.len(), guard.bytes.len())?;
         let rounds = self.fill_column(system, columns, &mut *guard.bytes);
-        self.finished.push_reserved(Finish {
-            route: Route::Direct,
-            rounds,
-        });
+        self.finish(Route::Direct, rounds);
         Ok(rounds)
     }
 }

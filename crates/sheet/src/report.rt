@@ -1,11 +1,13 @@
 //! The report of a sheet.
 ghost use mathlib.Core.Path.{_≡_};
+ghost use mathlib.Core.Bool.{cond};
 ghost use Prim.Native.Nat.{_+_, _*_, _≤_, _<_};
 ghost use lib.ListN.{length};
 ghost use Rattle.std.specs.Of.Vec.{vec-len};
 ghost use Rattle.faults.specs.Refusal.{Outcome};
 ghost use Rattle.sheet.specs.Book.{shown, roundsOf};
 ghost use Rattle.sheet.specs.Refusals.{refusal-report};
+ghost use Rattle.sheet.specs.Single.{marked};
 ghost use Rattle.sheet.specs.Report.{yesCount, headField, fieldOf, Reported};
 use crate::state::Sheet;
 use crate::write::write_at;
@@ -34,6 +36,19 @@ impl Sheet {
         [0x81, 0, 3, high, low, self.finished.len() as u8]
     }
 
+    /// The verdict on a finished row at a state, as a byte.
+    fn verdict_at(&self, columns: &[u8], row: usize, state: usize) -> u8
+        requires finished { ⌜ row < vec-len (now self .finished) ⌝ }
+        requires columns { ⌜ row * now self .n + state < length (now columns) ⌝ }
+        ensures { λ r. ⌜ r ≡ cond (marked (shown (now (self .entry))) (now (columns .entry)) row state) 1 0 ⌝ }
+    {
+        if columns[row * self.n + state] == 1 {
+            1
+        } else {
+            0
+        }
+    }
+
     /// The field of a finished row.
     fn row_field(&self, columns: &[u8], start: usize, row: usize) -> [u8; 10]
         requires finished { ⌜ row < vec-len (now self .finished) ⌝ }
@@ -44,7 +59,7 @@ impl Sheet {
         let base = row * self.n;
         let finish = self.finished[row];
         let [rounds_high, rounds_low] = finish.rounds.to_be_bytes();
-        let verdict = if columns[base + start] == 1 { 1 } else { 0 };
+        let verdict = self.verdict_at(columns, row, start);
         let [yes_high, yes_low] = count_yes(&columns[base..base + self.n]).to_be_bytes();
         [
             0x82,

@@ -1,8 +1,9 @@
 use mathlib.Core.Path.{refl}
+use native.Mathlib.Nat.{add-mul, one-mul}
 use native.Mathlib.Omega.{arith}
 use Rattle.std.proofs.shelf.Ways.{tells}
-use Rattle.sheet.proofs.Shown.{length-finished, nth-rounds}
-use Rattle.sheet.proofs.state.Sheet.read.Needs as need
+use Rattle.sheet.proofs.Shown.{length-finished}
+use Rattle.sheet.proofs.state.Sheet.admit_read.Needs as need
 
 pub returns-then-row-len : need.returns-then-row-len
 returns-then-row-len c = let e = length-finished (c .args .self .now) in rw e (grind (arith, tells))
@@ -12,5 +13,6 @@ returns-then-columns-row c = let e = length-finished (c .args .self .now) in rw 
 
 pub returns : need.returns
 returns c =
-    let e = length-finished (c .args .self .now) in
-    (rw e (grind (arith, tells)), (refl, nth-rounds (c .args .self .now) (c .args .row) (c .index .result .now) (omega arith) (c .index .ensures)))
+    let x = c .args .self .now in
+    let e = length-finished x in
+    (rw e (grind (arith, tells)), (omega arith, omega arith, omega (arith, add-mul (c .args .row) 1 (x .n), one-mul (x .n))))
