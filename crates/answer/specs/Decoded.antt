@@ -2,7 +2,7 @@
 use Prim.Native.Nat.{ℕ, _+_, _*_, _/_, _<_}
 use mathlib.Core.List.{List}
 use mathlib.Core.Path.{_≡_}
-use lib.ListN.{length, getD, drop}
+use lib.ListN.{length, getD, take, drop}
 use Rattle.std.specs.declared.option.Option.{Option}
 use Rattle.std.specs.declared.option.Option.the-variants.{None, Some}
 use Rattle.faults.specs.Bytes.{twoAt}
@@ -23,4 +23,4 @@ abbrev pub MailboxOf : List ℕ → Option (Mailbox × ActionSet) → Type 0
 MailboxOf body None = length body ≡ 35 → ⊥
 MailboxOf body (Some m) =
     (length body ≡ 35) × (m .0 .capacity ≡ getD body 0 0) × (m .0 .put ≡ getD body 1 0) × (m .0 .take ≡ getD body 2 0)
-    × (m .1 .bytes ≡ drop 3 body)
+    × (m .1 .bytes ≡ take 32 (drop 3 body))

@@ -1,6 +1,9 @@
 //! The answer to a job.
 ghost use Prim.Native.Nat.{_≤_};
 ghost use lib.ListN.{length};
+ghost use Rattle.std.specs.Of.Vec.{vec-items};
+ghost use Rattle.std.specs.Vec.{made};
+ghost use Rattle.answer.specs.Answered.{StopsAtFault, TellsFault};
 use crate::decode::mailbox_of;
 use crate::decode::table_rows;
 use crate::run::run;
@@ -59,7 +62,9 @@ fn run_joined(heap: Global, job: &Job<'_>, table: Table<'_>, body: &[u8]) -> Res
 }
 
 /// The report of a job, or why there is none.
-pub fn report_of(heap: Global, bytes: &[u8]) -> Result<Vec<u8>, Stop> {
+pub fn report_of(heap: Global, bytes: &[u8]) -> Result<Vec<u8>, Stop>
+    ensures { λ r. ⌜ StopsAtFault (now (bytes .entry)) r ⌝ }
+{
     let job = read_job(bytes)?;
     let rows = table_rows(heap, job.table)?;
     let table = Table {
@@ -75,7 +80,9 @@ pub fn report_of(heap: Global, bytes: &[u8]) -> Result<Vec<u8>, Stop> {
 }
 
 /// The answer to a job: its report, or the record of its first fault.
-pub fn answer(heap: Global, bytes: &[u8]) -> Result<Vec<u8>, Stop> {
+pub fn answer(heap: Global, bytes: &[u8]) -> Result<Vec<u8>, Stop>
+    ensures { λ r. ⌜ made r (λ v. TellsFault (now (bytes .entry)) (vec-items v)) ⌝ }
+{
     match report_of(heap, bytes) {
         Err(Stop::Faulty(fault)) => Ok(Vec::from_slice(heap, &fault.record())?),
         other => other,

@@ -52,7 +52,7 @@ fn label_all<S: System>(
 }
 
 /// Runs the job on its system, and gives its report.
-pub fn run<S: System>(heap: Global, job: &Job<'_>, system: &S) -> Result<Vec<u8>, Stop>
+pub(crate) fn run<S: System>(heap: Global, job: &Job<'_>, system: &S) -> Result<Vec<u8>, Stop>
     requires { ⌜ length (now (now job .formulas)) ≤ 320 ⌝ }
 {
     let mut sheet = Sheet::new(heap)?;

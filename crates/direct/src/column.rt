@@ -12,7 +12,7 @@ pub struct Column<'a> {
 
 impl<'a> Column<'a> {
     /// The column of a row, where `columns` holds those of all rows, `count` bytes each.
-    pub fn of_row(columns: &'a [u8], count: usize, row: u8) -> Column<'a>
+    pub(crate) fn of_row(columns: &'a [u8], count: usize, row: u8) -> Column<'a>
         requires { ⌜ count ≤ 65536 ⌝ }
         ensures { λ r. ⌜ marked r ≡ yes (now (columns .entry)) count row ⌝ }
     {

@@ -62,7 +62,7 @@ impl<'a> Field<'a> {
     }
 
     /// Whether it is the head, and there is no such route. The body has a right length.
-    pub fn has_no_route(&self) -> bool
+    pub(crate) fn has_no_route(&self) -> bool
         requires { ⌜ fitting (tagOf (now self)) (length (bodyOf (now self))) ≡ true ⌝ }
         ensures { λ r. ⌜ r ≡ noRoute (tagOf (now (self .entry))) (bodyOf (now (self .entry))) ⌝ }
     {

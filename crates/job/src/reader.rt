@@ -41,7 +41,7 @@ fn front(bytes: &[u8], count: usize) -> Option<&[u8]>
 
 impl<'a> Reader<'a> {
     /// A reader at the start of a job.
-    pub fn new(job: &'a [u8]) -> Reader<'a>
+    pub(crate) fn new(job: &'a [u8]) -> Reader<'a>
         requires { ⌜ length (now job) ≤ 65536 ⌝ }
         ensures { λ r. ⌜ (now (r .job) ≡ now (job .entry)) × (r .at ≡ 0) × (r .last ≡ 0) ⌝ }
     {

@@ -5,7 +5,7 @@ ghost use lib.ListN.{length};
 ghost use Rattle.sheet.specs.Written.{written};
 
 /// Writes bytes over those at a place.
-pub fn write_at(buffer: &mut [u8], at: usize, bytes: &[u8])
+pub(crate) fn write_at(buffer: &mut [u8], at: usize, bytes: &[u8])
     requires { ⌜ at + length (now bytes) ≤ length (now buffer) ⌝ }
     ensures { λ _. ⌜ now (buffer .exit) ≡ written (now (buffer .entry)) at (now (bytes .entry)) ⌝ }
 {

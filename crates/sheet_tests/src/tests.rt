@@ -1,5 +1,7 @@
 //! Each fault of the sheet's calls with a call that gets it and one that just does not.
 use faults::sheet::SheetFault;
+use faults::sheet::SheetFaultDebug;
+use faults::sheet::SheetFaultPartialEq;
 use sheet::state::Sheet;
 use std::test::*;
 use systems::mailbox::Mailbox;

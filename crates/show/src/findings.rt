@@ -19,7 +19,7 @@ fn print_finding(rt: &LibcRuntime, field: &[u8]) -> Result<(), AnyError> {
     let said = if *verdict == 1 { "YES" } else { "NO" };
     println!(
         rt,
-        "      {said} at the start; yes at {states} states; {rounds} rounds, {way}"
+        "      {said} at the start, yes at {states} states; rounds: {rounds}, {way}"
     )?;
     Ok(())
 }

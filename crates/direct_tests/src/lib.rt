@@ -1,0 +1,3 @@
+//! Runs the labelling of rows on small systems.
+#[cfg(test)]
+mod tests;
