@@ -1,8 +1,9 @@
 //! The answer to a job.
-ghost use Prim.Native.Nat.{_≤_};
+ghost use mathlib.Core.Path.{_≡_};
 ghost use lib.ListN.{length};
 ghost use Rattle.std.specs.Of.Vec.{vec-items};
 ghost use Rattle.std.specs.Vec.{made};
+ghost use Rattle.job.specs.Shown.{WellFormed, partsOf};
 ghost use Rattle.answer.specs.Answered.{StopsAtFault, TellsFault};
 use crate::decode::mailbox_of;
 use crate::decode::table_rows;
@@ -29,22 +30,21 @@ use systems::table::TableSystem;
 
 /// Runs the job on the system, with the job's actions hidden if it has some to hide.
 fn run_hidden<S: System + Drop>(heap: Global, job: &Job<'_>, system: S) -> Result<Vec<u8>, Stop>
-    requires { ⌜ length (now (now job .formulas)) ≤ 320 ⌝ }
+    requires { ⌜ WellFormed (partsOf (now job)) ⌝ }
 {
-    let Some(actions) = hidden_actions(job) else {
+    let Some(set) = job.hiding else {
         return run(heap, job, &system);
     };
-    run(heap, job, &Hiding { system, actions })
+    match ActionSet::from_bytes(set) {
+        Some(actions) => run(heap, job, &Hiding { system, actions }),
+        None => unreachable(),
+    }
 }
 
-/// The actions that the job hides.
-fn hidden_actions(job: &Job<'_>) -> Option<ActionSet> {
-    ActionSet::from_bytes(job.hiding?)
-}
-
-/// Runs the job on the product of its table with its mailbox.
+/// Runs the job on the product of its table with the mailbox of this body.
 fn run_joined(heap: Global, job: &Job<'_>, table: Table<'_>, body: &[u8]) -> Result<Vec<u8>, Stop>
-    requires { ⌜ length (now (now job .formulas)) ≤ 320 ⌝ }
+    requires well { ⌜ WellFormed (partsOf (now job)) ⌝ }
+    requires body { ⌜ length (now body) ≡ 35 ⌝ }
 {
     match mailbox_of(body) {
         Some(decoded) => {
@@ -57,7 +57,7 @@ fn run_joined(heap: Global, job: &Job<'_>, table: Table<'_>, body: &[u8]) -> Res
             product.check()?;
             run_hidden(heap, job, Kept::new(product))
         }
-        None => run_hidden(heap, job, table),
+        None => unreachable(),
     }
 }
 

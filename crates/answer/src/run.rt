@@ -1,6 +1,5 @@
 //! The calls that a job stands for, on a system.
-ghost use Prim.Native.Nat.{_≤_};
-ghost use lib.ListN.{length};
+ghost use Rattle.job.specs.Shown.{WellFormed, partsOf};
 use crate::stop::Stop;
 use crate::stop::StopFromMemory;
 use crate::stop::StopFromSheet;
@@ -53,7 +52,7 @@ fn label_all<S: System>(
 
 /// Runs the job on its system, and gives its report.
 pub(crate) fn run<S: System>(heap: Global, job: &Job<'_>, system: &S) -> Result<Vec<u8>, Stop>
-    requires { ⌜ length (now (now job .formulas)) ≤ 320 ⌝ }
+    requires { ⌜ WellFormed (partsOf (now job)) ⌝ }
 {
     let mut sheet = Sheet::new(heap)?;
     let states = system.count();
