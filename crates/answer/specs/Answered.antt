@@ -2,8 +2,6 @@
 use mathlib.Core.List.{List}
 use mathlib.Core.Path.{_≡_}
 use Prim.Native.Nat.{ℕ}
-use Rattle.std.specs.Of.Vec.{vec-items}
-use Rattle.std.specs.declared.alloc.Global.{Global}
 use Rattle.std.specs.declared.result.Result.{Result}
 use Rattle.std.specs.declared.result.Result.the-variants.{Err}
 use Rattle.faults.specs.Record.{faultRecord}

@@ -12,6 +12,7 @@ use crate::stop::Stop;
 use crate::stop::StopFromJob;
 use crate::stop::StopFromMemory;
 use crate::stop::StopFromSystem;
+use crate::stop::Unanswered;
 use job::Job;
 use job::read_job;
 use std::alloc::Global;
@@ -20,7 +21,6 @@ use systems::hiding::Hiding;
 use systems::hiding::HidingSystem;
 use systems::kept::Kept;
 use systems::kept::KeptSystem;
-use systems::mailbox::Mailbox;
 use systems::mailbox::MailboxSystem;
 use systems::product::Product;
 use systems::product::ProductSystem;
@@ -62,7 +62,7 @@ fn run_joined(heap: Global, job: &Job<'_>, table: Table<'_>, body: &[u8]) -> Res
 }
 
 /// The report of a job, or why there is none.
-pub fn report_of(heap: Global, bytes: &[u8]) -> Result<Vec<u8>, Stop>
+fn report_of(heap: Global, bytes: &[u8]) -> Result<Vec<u8>, Stop>
     ensures { λ r. ⌜ StopsAtFault (now (bytes .entry)) r ⌝ }
 {
     let job = read_job(bytes)?;
@@ -80,11 +80,15 @@ pub fn report_of(heap: Global, bytes: &[u8]) -> Result<Vec<u8>, Stop>
 }
 
 /// The answer to a job: its report, or the record of its first fault.
-pub fn answer(heap: Global, bytes: &[u8]) -> Result<Vec<u8>, Stop>
+pub fn answer(heap: Global, bytes: &[u8]) -> Result<Vec<u8>, Unanswered>
     ensures { λ r. ⌜ made r (λ v. TellsFault (now (bytes .entry)) (vec-items v)) ⌝ }
 {
     match report_of(heap, bytes) {
-        Err(Stop::Faulty(fault)) => Ok(Vec::from_slice(heap, &fault.record())?),
-        other => other,
+        Ok(report) => Ok(report),
+        Err(Stop::Faulty(fault)) => match Vec::from_slice(heap, &fault.record()) {
+            Ok(record) => Ok(record),
+            Err(_) => Err(Unanswered::Memory),
+        },
+        Err(Stop::Without(reason)) => Err(reason),
     }
 }

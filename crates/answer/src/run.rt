@@ -3,12 +3,12 @@ ghost use Rattle.job.specs.Shown.{WellFormed, partsOf};
 use crate::stop::Stop;
 use crate::stop::StopFromMemory;
 use crate::stop::StopFromSheet;
+use crate::stop::Unanswered;
 use faults::sheet::SheetFault;
 use job::Job;
 use logic::route::Route;
 use logic::route::RoutePartialEq;
 use sheet::state::Sheet;
-use std::alloc::AllocError;
 use std::alloc::Global;
 use systems::system::System;
 
@@ -60,7 +60,7 @@ pub(crate) fn run<S: System>(heap: Global, job: &Job<'_>, system: &S) -> Result<
     note_all(&mut sheet, job.actions)?;
     enter_all(&mut sheet, job.formulas)?;
     if job.route == Route::Translated {
-        return Err(Stop::Translated);
+        return Err(Stop::Without(Unanswered::Translated));
     }
     let rows = job.formulas.len() / 5;
     let mut columns = vec![in heap; 0; states * rows]?;

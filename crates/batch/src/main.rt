@@ -2,7 +2,7 @@
 mod hex;
 
 use answer::answer::answer;
-use answer::stop::Stop;
+use answer::stop::Unanswered;
 use hex::from_hex;
 use hex::to_hex;
 use std::alloc::Global;
@@ -17,8 +17,8 @@ fn answer_line(heap: Global, line: &str) -> Result<String, AnyError> {
     };
     match answer(heap, &job) {
         Ok(bytes) => Ok(to_hex(heap, &bytes)?),
-        Err(Stop::Translated) => Ok(String::from_str(heap, "translated")?),
-        Err(_) => Err("not enough memory".into()),
+        Err(Unanswered::Translated) => Ok(String::from_str(heap, "translated")?),
+        Err(Unanswered::Memory) => Err("not enough memory".into()),
     }
 }
 

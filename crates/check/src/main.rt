@@ -1,6 +1,6 @@
 //! Answers the job on standard input with the bytes of its report, or of its first fault's record, on standard output.
 use answer::answer::answer;
-use answer::stop::Stop;
+use answer::stop::Unanswered;
 use std::error::AnyError;
 use std::io::Read;
 use std::io::Write;
@@ -11,9 +11,8 @@ fn check(rt: &LibcRuntime) -> Result<(), AnyError> {
     rt.stdin().read_to_end(&mut job)?;
     match answer(rt.alloc(), &job) {
         Ok(bytes) => Ok(rt.stdout().write_all(&bytes)?),
-        Err(Stop::Translated) => Err("the translated route is not there yet".into()),
-        Err(Stop::Memory) => Err("not enough memory".into()),
-        Err(Stop::Faulty(_)) => Err("a fault without a record".into()),
+        Err(Unanswered::Translated) => Err("the translated route is not there yet".into()),
+        Err(Unanswered::Memory) => Err("not enough memory".into()),
     }
 }
 

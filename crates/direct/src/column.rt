@@ -1,6 +1,7 @@
 //! Columns of verdicts.
 ghost use mathlib.Core.Path.{_≡_};
 ghost use Prim.Native.Nat.{_≤_};
+ghost use Rattle.systems.specs.Bounds.{maxStates};
 ghost use Rattle.direct.specs.Labelled.{yes};
 ghost use Rattle.direct.specs.Marks.{marked};
 
@@ -13,7 +14,7 @@ pub struct Column<'a> {
 impl<'a> Column<'a> {
     /// The column of a row, where `columns` holds those of all rows, `count` bytes each.
     pub(crate) fn of_row(columns: &'a [u8], count: usize, row: u8) -> Column<'a>
-        requires { ⌜ count ≤ 65536 ⌝ }
+        requires { ⌜ count ≤ maxStates ⌝ }
         ensures { λ r. ⌜ marked r ≡ yes (now (columns .entry)) count row ⌝ }
     {
         let start = row as usize * count;

@@ -1,6 +1,6 @@
 -- The record of a fault.
 use Prim.Native.Nat.{ℕ}
-use mathlib.Core.List.{List, [], _∷_, _++_}
+use mathlib.Core.List.{List, _∷_}
 use Rattle.faults.specs.Bytes.{fourBytes}
 use Rattle.faults.specs.Numbers.{layer, number, place}
 use Rattle.faults.specs.declared.fault.Fault.{Fault}

@@ -24,24 +24,24 @@ pub enum Fault {
 pub impl From<JobFault> for Fault as FaultFromJob {
     ghost converts = { λ e r. r ≡ carried.Job e };
 
-    fn from(fault: JobFault) -> Fault {
-        Fault::Job(fault)
+    fn from(cause: JobFault) -> Fault {
+        Fault::Job(cause)
     }
 }
 
 pub impl From<SystemFault> for Fault as FaultFromSystem {
     ghost converts = { λ e r. r ≡ carried.System e };
 
-    fn from(fault: SystemFault) -> Fault {
-        Fault::System(fault)
+    fn from(cause: SystemFault) -> Fault {
+        Fault::System(cause)
     }
 }
 
 pub impl From<SheetFault> for Fault as FaultFromSheet {
     ghost converts = { λ e r. r ≡ carried.Sheet e };
 
-    fn from(fault: SheetFault) -> Fault {
-        Fault::Sheet(fault)
+    fn from(cause: SheetFault) -> Fault {
+        Fault::Sheet(cause)
     }
 }
 

@@ -1,6 +1,5 @@
 -- A job that was read, as its parts.
-use Prim.Native.Nat.{ℕ, _%_, _<_, _≤_}
-use mathlib.Core.List.{List}
+use Prim.Native.Nat.{_%_, _<_, _≤_}
 use mathlib.Core.Path.{_≡_}
 use denote.Ref.{now}
 use lib.ListN.{length}

@@ -23,46 +23,6 @@ formulaRow kind p c d q =
     ∷ row.ExistsUntil p c q ∷ row.ExistsUntilBy p c d q ∷ row.AllUntil p c q ∷ row.AllUntilBy p c d q ∷ [])
     kind
 
--- The fields of an action row; 0 where its kind does not use one.
-abbrev pub xOf : ActionRow → ℕ
-xOf act.Any = 0
-xOf (act.Is x) = x
-xOf (act.Not x) = x
-xOf (act.And x y) = x
-
-abbrev pub yOf : ActionRow → ℕ
-yOf act.Any = 0
-yOf (act.Is x) = 0
-yOf (act.Not x) = 0
-yOf (act.And x y) = y
-
--- The action rows that a formula row has as χ and as χ'; 0 where its kind does not use one. `firstOf` and `lastOf` are its r1 and r2.
-abbrev pub byOf : FormulaRow → ℕ
-byOf row.True = 0
-byOf (row.Not p) = 0
-byOf (row.And p q) = 0
-byOf (row.ExistsNext c p) = c
-byOf (row.ExistsSilent p) = 0
-byOf (row.AllNext c p) = c
-byOf (row.AllSilent p) = 0
-byOf (row.ExistsUntil p c q) = c
-byOf (row.ExistsUntilBy p c d q) = c
-byOf (row.AllUntil p c q) = c
-byOf (row.AllUntilBy p c d q) = c
-
-abbrev pub endOf : FormulaRow → ℕ
-endOf row.True = 0
-endOf (row.Not p) = 0
-endOf (row.And p q) = 0
-endOf (row.ExistsNext c p) = 0
-endOf (row.ExistsSilent p) = 0
-endOf (row.AllNext c p) = 0
-endOf (row.AllSilent p) = 0
-endOf (row.ExistsUntil p c q) = 0
-endOf (row.ExistsUntilBy p c d q) = d
-endOf (row.AllUntil p c q) = 0
-endOf (row.AllUntilBy p c d q) = d
-
 -- The action rows that an action row names.
 abbrev pub actionNames : ActionRow → List ℕ
 actionNames act.Any = []

@@ -1,6 +1,6 @@
 -- The lengths of what a sheet shows, and its parts.
 use Prim.Native.Nat.{ℕ, _<_}
-use mathlib.Core.List.{List, [], _∷_, _++_, map}
+use mathlib.Core.List.{List, [], _∷_, _++_}
 use mathlib.Core.Path.{_≡_, ap, sym, _∙_}
 use native.Mathlib.Omega.{arith}
 use lib.ListN.{length, getD, length-map}
@@ -8,7 +8,6 @@ use Rattle.std.proofs.shelf.Lists.{getD-map, map-push}
 use Rattle.std.proofs.shelf.Maps.{nth-getD}
 use Rattle.std.specs.Of.Vec.{vec-items, vec-len}
 use Rattle.std.specs.shelf.Maps.{nth}
-use Rattle.std.specs.declared.option.Option.{Option}
 use Rattle.std.specs.declared.option.Option.the-variants.{Some}
 use Rattle.logic.specs.declared.route.Route.{Route}
 use Rattle.sheet.specs.declared.state.Finish.{Finish}

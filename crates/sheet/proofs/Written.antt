@@ -1,6 +1,6 @@
--- A field that is written into an output behind what stands there.
+-- Bytes that are written over those at a place, and the fields of a report one after the other.
 use Prim.Native.Nat.{ℕ, _+_, _-_, _*_, _≤_}
-use mathlib.Core.List.{List, [], _∷_, _++_, append-assoc}
+use mathlib.Core.List.{List, _++_, append-assoc}
 use mathlib.Core.Path.{_≡_, refl, ap, sym, _∙_}
 use native.Mathlib.Numerals.{add-one}
 use native.Mathlib.Omega.{arith}
@@ -31,7 +31,6 @@ module _ (out : List ℕ) (p q : ℕ) (bytes : List ℕ) (e : q ≡ p + length b
 -- Outputs that agree past a place agree past any later one.
 pub later : (xs ys : List ℕ) (p q : ℕ) → p ≤ q → drop p xs ≡ drop p ys → drop q xs ≡ drop q ys
 later xs ys p q h e =
-    let k = q - p in
     let s : p + (q - p) ≡ q = omega arith in
     ap (λ n. drop n xs) (sym s) ∙ sym (drop-drop (q - p) p xs) ∙ ap (drop (q - p)) e ∙ drop-drop (q - p) p ys ∙ ap (λ n. drop n ys) s
 
@@ -52,7 +51,7 @@ module _ (b : Book) (rounds columns : List ℕ) (start k : ℕ) (head first out 
       drop (6 + 10 * k) out ≡ drop (6 + 10 * k) first → drop (6 + 10 * (k + 1)) (written out (6 + 10 * k) field) ≡ drop (6 + 10 * (k + 1)) first
   more-back e = back out (6 + 10 * k) (6 + 10 * (k + 1)) field place room ∙ later out first (6 + 10 * k) (6 + 10 * (k + 1)) (omega arith) e
 
--- All rows' fields: `start` is the output as it was handed in.
+-- All rows' fields: `given` is the output as it was handed in.
 pub all-written :
     (given first out all head : List ℕ) (q : ℕ) → length head ≡ 6 → 6 ≤ q → q ≤ length given → first ≡ written given 0 head → take q out ≡ all
     → drop q out ≡ drop q first → out ≡ all ++ drop q given

@@ -1,3 +1,4 @@
+pub mod Limits
 pub mod Book
 pub mod Refusals
 pub mod Single

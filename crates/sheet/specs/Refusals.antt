@@ -24,6 +24,7 @@ use Rattle.faults.specs.declared.sheet.SheetFault.the-variants.{
 }
 use Rattle.systems.specs.Machine.{Machine}
 use Rattle.logic.specs.Rows.{actionRow, formulaRow, actionNames, rowNames, testNames, beyond}
+use Rattle.sheet.specs.Limits.{mostStates, mostRows}
 use Rattle.sheet.specs.Book.{Book}
 
 -- Some row that this one names, if there is a row, is not below the limit.
@@ -32,14 +33,14 @@ astray names limit None = false
 astray names limit (Some x) = beyond limit (names x)
 
 abbrev pub refusal-begin : ℕ → Option SheetFault
-refusal-begin n = firstMet ((ltb n 1 || ltb 1024 n, States) ∷ [])
+refusal-begin n = firstMet ((ltb n 1 || ltb mostStates n, States) ∷ [])
 
 abbrev pub refusal-note : Book → ℕ → ℕ → ℕ → Option SheetFault
 refusal-note b kind x y =
     let row = actionRow kind x y in
     let k = length (b .actions) in
     firstMet
-    ((leb 64 k, Full k)
+    ((leb mostRows k, Full k)
     ∷ (not (isSome row) || (eqb kind 1 && eqb x 0), Kind k)
     ∷ (astray actionNames k row, NotEarlier k)
     ∷ [])
@@ -49,7 +50,7 @@ refusal-enter b kind r1 by last r2 =
     let row = formulaRow kind r1 by last r2 in
     let k = length (b .rows) in
     firstMet
-    ((leb 64 k, Full k)
+    ((leb mostRows k, Full k)
     ∷ (not (isSome row), Kind k)
     ∷ (astray rowNames k row, NotEarlier k)
     ∷ (astray testNames (length (b .actions)) row, NotNoted k)

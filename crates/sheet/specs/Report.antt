@@ -1,12 +1,11 @@
 -- The bytes of a report.
-use Prim.Native.Nat.{ℕ, zero, suc, _+_, _*_}
+use Prim.Native.Nat.{ℕ, zero, suc, _+_}
 use mathlib.Core.Bool.{cond}
 use mathlib.Core.List.{List, [], _∷_, _++_}
 use mathlib.Core.Path.{_≡_}
 use lib.Dec.{eqb}
 use lib.ListN.{length, getD, drop}
 use Rattle.faults.specs.Bytes.{twoBytes}
-use Rattle.logic.specs.declared.route.Route.{Route}
 use Rattle.logic.specs.declared.route.Route.the-variants.{Direct}
 use Rattle.logic.specs.RouteNumber.{routeNumber}
 use Rattle.sheet.specs.declared.state.Sheet.{Sheet}

@@ -3,14 +3,14 @@ use Prim.Native.Nat.{ℕ, _+_, _*_, _<_}
 use mathlib.Core.Bool.{Bool}
 use mathlib.Core.List.{List, []}
 use mathlib.Core.Path.{_≡_}
-use lib.Dec.{eqb}
-use lib.ListN.{length, getD, take, drop}
+use lib.ListN.{length, take, drop}
 use Rattle.std.specs.declared.option.Option.{Option}
 use Rattle.std.specs.declared.option.Option.the-variants.{Some}
 use Rattle.std.specs.Of.Vec.{vec-len}
 use Rattle.std.specs.shelf.Maps.{nth}
 use Rattle.logic.specs.declared.rows.ActionRow.{ActionRow}
 use Rattle.logic.specs.declared.rows.FormulaRow.{FormulaRow}
+use Rattle.direct.specs.Labelled.{yes}
 use Rattle.sheet.specs.declared.state.Sheet.{Sheet}
 use Rattle.sheet.specs.Book.{Book, shown, roundsOf, blank, noting, entering}
 
@@ -30,9 +30,9 @@ Entered x y row k = (k ≡ length (shown x .rows)) × (shown y ≡ entering row 
 abbrev pub columnOf : Book → List ℕ → ℕ → List ℕ
 columnOf b cs r = take (b .n) (drop (r * b .n) cs)
 
--- Whether row r says yes at state s: the byte is 1.
+-- Whether row r says yes at state s, in the columns of a sheet with this book.
 abbrev pub marked : Book → List ℕ → ℕ → ℕ → Bool
-marked b cs r s = eqb (getD cs (r * b .n + s) 0) 1
+marked b cs r s = yes cs (b .n) r s
 
 -- The row is finished, and the columns reach to its byte of the state.
 abbrev pub Readable : Sheet → (columns row state : ℕ) → Type 0

@@ -1,10 +1,11 @@
-//! The refusals of the calls on a sheet, in their order.
+//! The refusals of `note` and `enter`, in their order.
 ghost use mathlib.Core.Path.{_≡_};
 ghost use Rattle.std.specs.declared.option.Option.the-variants.{Some};
 ghost use Rattle.faults.specs.Refusal.{Outcome};
 ghost use Rattle.logic.specs.Rows.{actionRow, formulaRow};
 ghost use Rattle.sheet.specs.Book.{shown};
-ghost use Rattle.sheet.specs.Refusals.{refusal-note, refusal-enter, refusal-read};
+ghost use Rattle.sheet.specs.Refusals.{refusal-note, refusal-enter};
+use crate::limits::MOST_ROWS;
 use crate::state::Sheet;
 use faults::sheet::SheetFault;
 use logic::rows::ActionRow;
@@ -17,7 +18,7 @@ impl Sheet {
     {
         let number = self.actions.len();
         let place = number as u32;
-        if number >= 64 {
+        if number >= MOST_ROWS {
             return Err(SheetFault::Full(place));
         }
         let Some(row) = ActionRow::of_kind(kind, x, y) else {
@@ -45,7 +46,7 @@ impl Sheet {
     {
         let number = self.rows.len();
         let place = number as u32;
-        if number >= 64 {
+        if number >= MOST_ROWS {
             return Err(SheetFault::Full(place));
         }
         let Some(row) = FormulaRow::of_kind(kind, r1, by, last, r2) else {

@@ -1,13 +1,13 @@
 //! Sheets are made and emptied, and rows are added.
 ghost use mathlib.Core.Path.{_≡_};
-ghost use mathlib.Core.List.{[]};
-ghost use lib.ListN.{length};
 ghost use Rattle.std.specs.Vec.{made};
 ghost use Rattle.faults.specs.Refusal.{Outcome};
 ghost use Rattle.logic.specs.Rows.{actionRow, formulaRow};
-ghost use Rattle.sheet.specs.Book.{shown, roundsOf, blank, noting, entering};
+ghost use Rattle.sheet.specs.Book.{shown};
 ghost use Rattle.sheet.specs.Single.{Begun, Noted, Entered};
 ghost use Rattle.sheet.specs.Refusals.{refusal-begin, refusal-note, refusal-enter};
+use crate::limits::MOST_ROWS;
+use crate::limits::MOST_STATES;
 use crate::state::Sheet;
 use faults::sheet::SheetFault;
 use std::alloc::AllocError;
@@ -18,9 +18,9 @@ impl Sheet {
     pub fn new(heap: Global) -> Result<Sheet, AllocError>
         ensures { λ r. ⌜ made r (λ s. Begun s 1) ⌝ }
     {
-        let actions = Vec::with_capacity(heap, 64)?;
-        let rows = Vec::with_capacity(heap, 64)?;
-        let finished = Vec::with_capacity(heap, 64)?;
+        let actions = Vec::with_capacity(heap, MOST_ROWS)?;
+        let rows = Vec::with_capacity(heap, MOST_ROWS)?;
+        let finished = Vec::with_capacity(heap, MOST_ROWS)?;
         Ok(Sheet {
             n: 1,
             actions,
@@ -33,7 +33,7 @@ impl Sheet {
     pub fn begin(&mut self, n: usize) -> Result<(), SheetFault>
         ensures { λ r. ⌜ Outcome r (refusal-begin n) (now (self .exit) ≡ now (self .entry)) (λ _. Begun (now (self .exit)) n) ⌝ }
     {
-        if n < 1 || n > 1024 {
+        if n < 1 || n > MOST_STATES {
             return Err(SheetFault::States);
         }
         self.finished.clear();

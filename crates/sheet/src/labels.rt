@@ -10,6 +10,7 @@ ghost use Rattle.std.specs.Of.Vec.{vec-len};
 ghost use Rattle.sheet.specs.Book.{shown, roundsOf, finishing};
 ghost use Rattle.sheet.specs.Refusals.{refusal-direct};
 ghost use Rattle.sheet.specs.Labelling.{Fills, Finishes};
+use crate::limits::MOST_STATES;
 use crate::state::Finish;
 use crate::state::Sheet;
 use crate::wiped::Wiped;
@@ -54,7 +55,7 @@ impl Sheet {
     {
         let row = self.finished.len();
         let base = row * self.n;
-        let mut work = [0; 1024];
+        let mut work = [0; MOST_STATES];
         let column = &mut work[0..self.n];
         let row = &self.rows[row];
         let earlier = &columns[0..base];

@@ -2,6 +2,7 @@
 mod admit;
 mod entries;
 mod labels;
+mod limits;
 mod reads;
 mod report;
 pub mod state;

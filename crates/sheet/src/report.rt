@@ -6,6 +6,7 @@ ghost use lib.ListN.{length};
 ghost use Rattle.std.specs.Of.Vec.{vec-len};
 ghost use Rattle.faults.specs.Refusal.{Outcome};
 ghost use Rattle.sheet.specs.Book.{shown, roundsOf};
+ghost use Rattle.sheet.specs.Limits.{mostStates};
 ghost use Rattle.sheet.specs.Refusals.{refusal-report};
 ghost use Rattle.sheet.specs.Single.{marked};
 ghost use Rattle.sheet.specs.Report.{yesCount, headField, fieldOf, Reported};
@@ -15,7 +16,7 @@ use faults::sheet::SheetFault;
 
 /// How many states a column says yes at.
 fn count_yes(column: &[u8]) -> u16
-    requires { ⌜ length (now column) ≤ 1024 ⌝ }
+    requires { ⌜ length (now column) ≤ mostStates ⌝ }
     ensures { λ r. ⌜ r ≡ yesCount (now (column .entry)) ⌝ }
 {
     let mut yes = 0;
@@ -75,7 +76,7 @@ impl Sheet {
         ]
     }
 
-    /// The length of the report.
+    /// The length of the report, or its first fault.
     fn admit_report(&self, columns: usize, start: usize, output: usize) -> Result<usize, SheetFault>
         ensures { λ r. ⌜ Outcome r (refusal-report (shown (now (self .entry))) columns start output) (Unit {0}) (λ k. k ≡ 6 + 10 * vec-len (now (self .entry) .finished)) ⌝ }
     {

@@ -1,6 +1,7 @@
 //! The sheet.
 ghost use Prim.Native.Nat.{_≤_};
 ghost use Rattle.std.specs.Of.Vec.{vec-len, vec-cap};
+ghost use Rattle.sheet.specs.Limits.{mostStates, mostRows};
 use logic::route::Route;
 use logic::rows::ActionRow;
 use logic::rows::FormulaRow;
@@ -20,8 +21,8 @@ pub struct Sheet {
     pub(crate) actions: Vec<ActionRow>,
     pub(crate) rows: Vec<FormulaRow>,
     pub(crate) finished: Vec<Finish>,
-    ghost states: { (1 ≤ n) × (n ≤ 1024) },
-    ghost room: { (64 ≤ vec-cap actions) × (64 ≤ vec-cap rows) × (64 ≤ vec-cap finished) },
-    ghost few: { (vec-len actions ≤ 64) × (vec-len rows ≤ 64) },
+    ghost states: { (1 ≤ n) × (n ≤ mostStates) },
+    ghost room: { (mostRows ≤ vec-cap actions) × (mostRows ≤ vec-cap rows) × (mostRows ≤ vec-cap finished) },
+    ghost few: { (vec-len actions ≤ mostRows) × (vec-len rows ≤ mostRows) },
     ghost prefix: { vec-len finished ≤ vec-len rows },
 }

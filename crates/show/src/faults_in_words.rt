@@ -33,7 +33,7 @@ impl FaultWords {
             8 => "the table's row of this number has a state that is not below the count",
             9 => "the machine has too many states or places",
             10 => "the machine has over 1,024 states",
-            11 => "there are over 64 rows before this one",
+            11 => "there are 64 rows before this one",
             12 => "the row of this number has an unknown kind, or tests for the silent action",
             13 => "the row of this number names a row that is not earlier",
             14 => "the formula row of this number names an action row that is not there",

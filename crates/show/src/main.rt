@@ -5,7 +5,7 @@ mod machine;
 mod rows_in_words;
 
 use answer::answer::answer;
-use answer::stop::Stop;
+use answer::stop::Unanswered;
 use faults_in_words::FaultWords;
 use faults_in_words::FaultWordsDisplay;
 use findings::print_findings;
@@ -31,8 +31,8 @@ fn show(rt: &LibcRuntime) -> Result<(), AnyError> {
     println!(rt, "A job of {length} bytes.")?;
     let answered = match answer(rt.alloc(), &bytes) {
         Ok(answered) => answered,
-        Err(Stop::Translated) => return Err("the translated route is not there yet".into()),
-        Err(_) => return Err("not enough memory".into()),
+        Err(Unanswered::Translated) => return Err("the translated route is not there yet".into()),
+        Err(Unanswered::Memory) => return Err("not enough memory".into()),
     };
     if let Some(fault) = FaultWords::of_record(&answered) {
         println!(rt, "Refused: {fault}.")?;

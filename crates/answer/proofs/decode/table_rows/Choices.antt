@@ -1,6 +1,6 @@
 use Prim.Native.Nat.{ℕ, _*_, _<_}
 use mathlib.Core.Path.{_≡_}
-use lib.ListN.{length, getD}
+use lib.ListN.{getD}
 use Rattle.std.specs.Of.Vec.{vec-items, vec-len}
 use Rattle.systems.specs.declared.row.Row.{Row}
 use Rattle.answer.specs.Decoded.{RowAt}
