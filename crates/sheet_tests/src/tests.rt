@@ -48,67 +48,59 @@ fn formula_rows(rt: LibcRuntime) -> Result<(), Fail> {
     check_eq(sheet.enter(11, 0, 0, 0, 0), Err(SheetFault::Full(64)))
 }
 
+/// A system of two states.
+const TWO_STATES: Mailbox = Mailbox {
+    capacity: 1,
+    put: 1,
+    take: 2,
+};
+
+#[test]
+fn no_row_to_label(rt: LibcRuntime) -> Result<(), Fail> {
+    let mut sheet = Sheet::new(rt.alloc())?;
+    let mut columns = [7; 4];
+    let mut scratch = [7; 2];
+    let none = sheet.direct(&TWO_STATES, &mut columns, &mut scratch);
+    check_eq(none, Err(SheetFault::Finished(0)))?;
+    check_eq(scratch, [0, 0])?;
+    let _ = sheet.enter(0, 0, 0, 0, 0)?;
+    let other = sheet.direct(&TWO_STATES, &mut columns, &mut scratch);
+    check_eq(other, Err(SheetFault::StateCount(0)))
+}
+
 #[test]
 fn labelling(rt: LibcRuntime) -> Result<(), Fail> {
     let mut sheet = Sheet::new(rt.alloc())?;
-    let system = Mailbox {
-        capacity: 1,
-        put: 1,
-        take: 2,
-    };
     let mut columns = [7; 4];
     let mut scratch = [7; 2];
-    check_eq(
-        sheet.direct(&system, &mut columns, &mut scratch),
-        Err(SheetFault::Finished(0)),
-    )?;
-    check_eq(scratch, [0, 0])?;
-    let _ = sheet.enter(0, 0, 0, 0, 0)?;
-    check_eq(
-        sheet.direct(&system, &mut columns, &mut scratch),
-        Err(SheetFault::StateCount(0)),
-    )?;
     sheet.begin(2)?;
     let _ = sheet.enter(0, 0, 0, 0, 0)?;
     let _ = sheet.enter(1, 0, 0, 0, 0)?;
-    check_eq(
-        sheet.direct(&system, &mut columns[0..1], &mut scratch),
-        Err(SheetFault::Columns(0)),
-    )?;
-    check_eq(
-        sheet.direct(&system, &mut columns, &mut scratch[0..1]),
-        Err(SheetFault::Scratch(0)),
-    )?;
+    let short = sheet.direct(&TWO_STATES, &mut columns[0..1], &mut scratch);
+    check_eq(short, Err(SheetFault::Columns(0)))?;
+    let short = sheet.direct(&TWO_STATES, &mut columns, &mut scratch[0..1]);
+    check_eq(short, Err(SheetFault::Scratch(0)))?;
     check_eq(columns, [7, 7, 7, 7])?;
     check_eq(
-        sheet.direct(&system, &mut columns[0..2], &mut scratch),
+        sheet.direct(&TWO_STATES, &mut columns[0..2], &mut scratch),
         Ok(0),
     )?;
     check_eq(columns, [1, 1, 7, 7])?;
-    check_eq(
-        sheet.direct(&system, &mut columns[0..3], &mut scratch),
-        Err(SheetFault::Columns(1)),
-    )?;
-    check_eq(sheet.direct(&system, &mut columns, &mut scratch), Ok(0))?;
+    let short = sheet.direct(&TWO_STATES, &mut columns[0..3], &mut scratch);
+    check_eq(short, Err(SheetFault::Columns(1)))?;
+    check_eq(sheet.direct(&TWO_STATES, &mut columns, &mut scratch), Ok(0))?;
     check_eq(columns, [1, 1, 0, 0])?;
-    check_eq(
-        sheet.direct(&system, &mut columns, &mut scratch),
-        Err(SheetFault::Finished(2)),
-    )
+    let done = sheet.direct(&TWO_STATES, &mut columns, &mut scratch);
+    check_eq(done, Err(SheetFault::Finished(2)))
 }
 
 /// A sheet of two states with one finished row, which is true.
 fn finished(sheet: &mut Sheet, columns: &mut [u8]) -> Result<(), SheetFault> {
-    let system = Mailbox {
-        capacity: 1,
-        put: 1,
-        take: 2,
-    };
     let mut scratch = [0; 2];
     sheet.begin(2)?;
     let _ = sheet.enter(0, 0, 0, 0, 0)?;
     let _ = sheet.enter(0, 0, 0, 0, 0)?;
-    let _ = sheet.direct(&system, columns, &mut scratch)?;
+    let _ = sheet.direct(&TWO_STATES, columns, &mut scratch)?;
     Ok(())
 }
 

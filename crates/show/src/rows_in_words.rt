@@ -29,19 +29,13 @@ pub impl fmt::Display for FormulaWords as FormulaWordsDisplay {
             FormulaRow::True => write!(f, "true"),
             FormulaRow::Not(p) => write!(f, "not f{p}"),
             FormulaRow::And(p, q) => write!(f, "f{p} and f{q}"),
-            FormulaRow::ExistsNext { by, then } => write!(
-                f,
-                "some path begins by a{by} with f{then}"
-            ),
-            FormulaRow::ExistsSilent { then } => write!(
-                f,
-                "some path begins silently with f{then}"
-            ),
+            FormulaRow::ExistsNext { by, then } => write!(f, "a path begins by a{by} with f{then}"),
+            FormulaRow::ExistsSilent { then } => write!(f, "a path begins silently with f{then}"),
             FormulaRow::AllNext { by, then } => write!(f, "all paths begin by a{by} with f{then}"),
             FormulaRow::AllSilent { then } => write!(f, "all paths begin silently with f{then}"),
             FormulaRow::ExistsUntil { hold, by, goal } => write!(
                 f,
-                "on some path f{hold} along a{by} until f{goal}"
+                "on a path f{hold} along a{by} until f{goal}"
             ),
             FormulaRow::ExistsUntilBy {
                 hold,
@@ -50,7 +44,7 @@ pub impl fmt::Display for FormulaWords as FormulaWordsDisplay {
                 goal,
             } => write!(
                 f,
-                "on some path f{hold} along a{by} until a{last} leads to f{goal}"
+                "on a path f{hold} along a{by} until a{last} leads to f{goal}"
             ),
             FormulaRow::AllUntil { hold, by, goal } => write!(
                 f,

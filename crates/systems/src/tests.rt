@@ -153,82 +153,28 @@ fn product_faults() -> Result<(), Fail> {
     check_eq(check_product(left, right), Err(SystemFault::TooLarge))
 }
 
+/// What the check of a table answers.
+fn check_table(count: usize, start: usize, rows: &[Row]) -> Result<(), SystemFault> {
+    Table { count, start, rows }.check()
+}
+
 #[test]
 fn table_faults() -> Result<(), Fail> {
-    check_eq(
-        Table {
-            count: 65536,
-            start: 65535,
-            rows: &[],
-        }.check(),
-        Ok(()),
-    )?;
-    check_eq(
-        Table {
-            count: 65537,
-            start: 0,
-            rows: &[],
-        }.check(),
-        Err(SystemFault::Count),
-    )?;
-    check_eq(
-        Table {
-            count: 0,
-            start: 0,
-            rows: &[],
-        }.check(),
-        Err(SystemFault::Count),
-    )?;
-    check_eq(
-        Table {
-            count: 3,
-            start: 3,
-            rows: &[],
-        }.check(),
-        Err(SystemFault::Count),
-    )?;
-    let rows = [LOOP; 4097];
-    check_eq(
-        Table {
-            count: 1,
-            start: 0,
-            rows: &rows[..4096],
-        }.check(),
-        Ok(()),
-    )?;
-    check_eq(
-        Table {
-            count: 1,
-            start: 0,
-            rows: &rows,
-        }.check(),
-        Err(SystemFault::TooLarge),
-    )?;
-    let rows = [
-        LOOP,
-        LOOP,
-        Row {
-            source: 0,
-            action: 1,
-            target: 1,
-        },
-    ];
-    check_eq(
-        Table {
-            count: 2,
-            start: 0,
-            rows: &rows,
-        }.check(),
-        Ok(()),
-    )?;
-    check_eq(
-        Table {
-            count: 1,
-            start: 0,
-            rows: &rows,
-        }.check(),
-        Err(SystemFault::Row(2)),
-    )
+    check_eq(check_table(65536, 65535, &[]), Ok(()))?;
+    check_eq(check_table(65537, 0, &[]), Err(SystemFault::Count))?;
+    check_eq(check_table(0, 0, &[]), Err(SystemFault::Count))?;
+    check_eq(check_table(3, 3, &[]), Err(SystemFault::Count))?;
+    let many = [LOOP; 4097];
+    check_eq(check_table(1, 0, &many[..4096]), Ok(()))?;
+    check_eq(check_table(1, 0, &many), Err(SystemFault::TooLarge))?;
+    let onward = Row {
+        source: 0,
+        action: 1,
+        target: 1,
+    };
+    let rows = [LOOP, LOOP, onward];
+    check_eq(check_table(2, 0, &rows), Ok(()))?;
+    check_eq(check_table(1, 0, &rows), Err(SystemFault::Row(2)))
 }
 
 #[test]
