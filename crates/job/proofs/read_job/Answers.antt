@@ -10,40 +10,40 @@ loop-field-init c =
     let e = c.empty-parts.ensures in
     record { same = r.0; well = rw e well_none; steps = 7; enough = omega arith; left = rw (r.1, r.2, e) }
 
-pub returns-in-err-field : goal.returns-in-err-field
-returns-in-err-field c =
-    let x = err_from_is_err_and c.from-residual.result c.from-residual.ensures.1 in
-    let s = at_fault _ _ _ _ _ c.loop-field.invariant _ c.in-err-field.ensures.steps.0 c.loop-field.reader.short in
+pub returns-in_err-field : goal.returns-in_err-field
+returns-in_err-field c =
+    let x = err_from_is_err_and c.from_residual.result c.from_residual.ensures.1 in
+    let s = at_fault _ _ _ _ _ c.loop-field.invariant _ c.in_err-field.ensures.steps.0 c.loop-field.reader.short in
     rw (x.1, x.2) record { parsed = s; well = tt }
 
 pub keep-requires : goal.keep-requires
 keep-requires c =
-    let e = simp c.in-Some.is at c.in-ok-field.ensures.steps in
+    let e = simp c.in-Some.is at c.in_ok-field.ensures.steps in
     let k = sound c.loop-field.reader.job.now c.loop-field.reader.last c.loop-field.reader.at _ e.0 in
     (k.fits, k.routed)
 
 pub loop-field-smaller : goal.loop-field-smaller
 loop-field-smaller c =
-    let e = simp c.in-Some.is at c.in-ok-field.ensures.steps in
+    let e = simp c.in-Some.is at c.in_ok-field.ensures.steps in
     let k = sound c.loop-field.reader.job.now c.loop-field.reader.last c.loop-field.reader.at _ e.0 in
     omega (arith, k.above, k.known, e.1)
 
 pub loop-field-preserved : goal.loop-field-preserved
 loop-field-preserved c =
-    let e = simp c.in-Some.is at c.in-ok-field.ensures.steps in
+    let e = simp c.in-Some.is at c.in_ok-field.ensures.steps in
     let k = sound c.loop-field.reader.job.now c.loop-field.reader.last c.loop-field.reader.at _ e.0 in
-    at_field _ _ _ _ _ c.loop-field.invariant _ e.0 k _ c.in-ok-field.ensures.same _ e.1 _ c.keep.ensures.kept (c.keep.ensures.well c.loop-field.invariant.well)
+    at_field _ _ _ _ _ c.loop-field.invariant _ e.0 k _ c.in_ok-field.ensures.same _ e.1 _ c.keep.ensures.kept (c.keep.ensures.well c.loop-field.invariant.well)
 
-pub returns-in-err-finish : goal.returns-in-err-finish
-returns-in-err-finish c =
-    let x = err_from_is_err_and c.from-residual-in-err-finish.result c.from-residual-in-err-finish.ensures.1 in
-    let e = simp c.in-default.is at c.in-ok-field.ensures.steps in
-    let f = c.in-err-finish.ensures in
-    let s = at_missing _ _ _ _ _ c.loop-field.invariant e.0 c.loop-field.reader.short _ e.1 f.0 _ c.in-ok-field.ensures.same _ f.1 in
+pub returns-in_err-finish : goal.returns-in_err-finish
+returns-in_err-finish c =
+    let x = err_from_is_err_and c.from_residual-in_err-finish.result c.from_residual-in_err-finish.ensures.1 in
+    let e = simp c.in_default.is at c.in_ok-field.ensures.steps in
+    let f = c.in_err-finish.ensures in
+    let s = at_missing _ _ _ _ _ c.loop-field.invariant e.0 c.loop-field.reader.short _ e.1 f.0 _ c.in_ok-field.ensures.same _ f.1 in
     rw (x.1, x.2) record { parsed = s; well = tt }
 
 pub returns : goal.returns
 returns c =
-    let e = simp c.in-default.is at c.in-ok-field.ensures.steps in
-    let s = at_whole _ _ _ _ _ c.loop-field.invariant e.0 c.loop-field.reader.short _ e.1 c.in-ok-finish.ensures in
+    let e = simp c.in_default.is at c.in_ok-field.ensures.steps in
+    let s = at_whole _ _ _ _ _ c.loop-field.invariant e.0 c.loop-field.reader.short _ e.1 c.in_ok-finish.ensures in
     record { parsed = s; well = c.loop-field.invariant.well }

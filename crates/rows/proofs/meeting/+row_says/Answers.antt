@@ -3,8 +3,8 @@ use Rattle.std.proofs.lemmas.Bool.Decides.{nat_tests}
 use Rattle.rows.specs.Tests.{row_says, Remembers}
 use Rattle.rows.proofs.Verdicts.{row_stray, row_names_lem, row_past, remembered, remembers_more}
 use Rattle.rows.proofs.meeting.+row_says.Goals as goal
-use Rattle.rows.proofs.meeting.+row_says.Goals.{then-row-rows-via-then-row-rows, then-row-rows-via-else-row-rows+then-names-beyond}
-use Rattle.rows.proofs.meeting.+row_says.Goals.{in-Any, in-Is, in-Not, in-And+then-row-says, in-And+else-row-says}
+use Rattle.rows.proofs.meeting.+row_says.Goals.{then-row-rows-via-then-row-rows, then-row-rows-via-else-row-rows+then-names_beyond}
+use Rattle.rows.proofs.meeting.+row_says.Goals.{in-Any, in-Is, in-Not, in-And+then-row_says, in-And+else-row_says}
 
 pub returns-then-row-rows : goal.returns-then-row-rows
 returns-then-row-rows t c =
@@ -12,8 +12,8 @@ returns-then-row-rows t c =
       answer =
           elim c.then-row-rows.branch [
             | then-row-rows-via-then-row-rows w ↦ sym (row_past c.args.rows.now c.args.row c.args.action w.if-row-rows.true)
-            | then-row-rows-via-else-row-rows+then-names-beyond w ↦
-                sym (row_stray c.args.rows.now c.args.row c.args.action w.if-row-rows.false (sym w.if-names-beyond.ensures))
+            | then-row-rows-via-else-row-rows+then-names_beyond w ↦
+                sym (row_stray c.args.rows.now c.args.row c.args.action w.if-row-rows.false (sym w.if-names_beyond.ensures))
           ];
       memory = search rules;
     }
@@ -32,14 +32,14 @@ returns t c =
     let row = c.args.row in
     let a = c.args.action in
     let known = c.match-rows-row.known in
-    let e = row_names_lem rows row a c.if-row-rows.false (sym c.if-names-beyond.ensures) in
+    let e = row_names_lem rows row a c.if-row-rows.false (sym c.if-names_beyond.ensures) in
     let j : (c.match-rows-row.answer ≡ row_says rows row a) × Remembers rows a known =
     elim c.match-rows-row.branch [
       | in-Any w ↦ (grind (arith, nat_tests, e), search rules)
       | in-Is w ↦ (grind (arith, nat_tests, e), search rules)
       | in-Not w ↦ (grind (arith, nat_tests, e), search rules)
-      | in-And+then-row-says w ↦ (grind (arith, nat_tests, e), search rules)
-      | in-And+else-row-says w ↦ (grind (arith, nat_tests, e), search rules)
+      | in-And+then-row_says w ↦ (grind (arith, nat_tests, e), search rules)
+      | in-And+else-row_says w ↦ (grind (arith, nat_tests, e), search rules)
     ] in
     record {
       answer = j.0;

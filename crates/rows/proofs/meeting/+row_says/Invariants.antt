@@ -1,4 +1,4 @@
 use Rattle.rows.proofs.meeting.+row_says.Given as goal
 
-abbrev pub decreases-row-says : goal.decreases-row-says
-decreases-row-says l = l.row
+abbrev pub decreases-row_says : goal.decreases-row_says
+decreases-row_says l = l.row

@@ -5,4 +5,4 @@ use Rattle.sheet.proofs.write.write_at.Goals as goal
 pub returns : goal.returns
 returns c =
     let k : (c.args.at + length c.args.bytes.now) - c.args.at ≡ length c.args.bytes.now = omega arith in
-    rw (k, c.copy-from-slice.ensures.after) (simp drop-drop)
+    rw (k, c.copy_from_slice.ensures.after) (simp drop-drop)

@@ -11,8 +11,8 @@ index-row-requires g c =
     let room = direct_room (g.S.System.meaning c.args.system.now) (shown x) _ _ c.requires in
     omega (arith, room.0, length_finished x, length_entered x)
 
-pub slice-bounds-earlier-end : goal.slice-bounds-earlier-end
-slice-bounds-earlier-end g c =
+pub slice_bounds-earlier-end : goal.slice_bounds-earlier-end
+slice_bounds-earlier-end g c =
     let x = c.args.self.now in
     let room = direct_room (g.S.System.meaning c.args.system.now) (shown x) _ _ c.requires in
     let e = add-mul (length (shown x).finished) 1 x.n in
@@ -20,8 +20,8 @@ slice-bounds-earlier-end g c =
     let h : c.len-row.result * x.n ≤ length c.args.columns.now = omega (arith, room.2, e, f) in
     search rules
 
-pub write-at-requires : goal.write-at-requires
-write-at-requires g c =
+pub write_at-requires : goal.write_at-requires
+write_at-requires g c =
     let x = c.args.self.now in
     let room = direct_room (g.S.System.meaning c.args.system.now) (shown x) _ _ c.requires in
     let e = add-mul (length (shown x).finished) 1 x.n in
@@ -35,5 +35,5 @@ returns g c =
     let room = direct_room m (shown x) _ _ c.requires in
     let r : c.len-row.result ≡ length (shown x).finished = c.len-row.ensures ∙ sym (length_finished x) in
     filled_from m (shown x) c.args.columns.now c.label.new.column c.in-Some.rounds c.deref.result.now c.index-row.result.now
-    c.len-row.result c.write-at.new.buffer c.deref.ensures.value c.index-row.ensures r room.0 c.in-Some.ensures.1
-    c.write-at.ensures (omega arith) room.2
+    c.len-row.result c.write_at.new.buffer c.deref.ensures.value c.index-row.ensures r room.0 c.in-Some.ensures.1
+    c.write_at.ensures (omega arith) room.2

@@ -9,8 +9,8 @@ returns c =
     let x = c.args.self.now in
     let f : Finish = record { route = c.args.route; rounds = c.args.rounds } in
     let old = vec_items x.finished in
-    let new = vec_items c.push-reserved.new.self in
+    let new = vec_items c.push_reserved.new.self in
     record {
-      book = book_more old new f c.push-reserved.ensures.items (shown x) refl;
-      rounds = counts_more old new f c.push-reserved.ensures.items;
+      book = book_more old new f c.push_reserved.ensures.items (shown x) refl;
+      rounds = counts_more old new f c.push_reserved.ensures.items;
     }

@@ -10,4 +10,4 @@ returns c =
     let route = route_at x c.args.row f c.requires.finished c.index.ensures Direct in
     let rounds = rounds_at x c.args.row f c.requires.finished c.index.ensures 0 in
     let n : (c.args.row * x.n + x.n) - c.args.row * x.n ≡ x.n = omega arith in
-    simp (route, rounds, c.verdict-at-verdict.ensures, c.to-be-bytes.ensures, c.to-be-bytes-2.ensures, c.number.ensures, c.count-yes.ensures, n)
+    simp (route, rounds, c.verdict_at-verdict.ensures, c.to_be_bytes.ensures, c.to_be_bytes-2.ensures, c.number.ensures, c.count_yes.ensures, n)
