@@ -7,7 +7,7 @@ A name changes if a file of crates/*/specs or crates/*/proofs declares it (not a
 it begins with a small letter or joins words by dashes, and it has a dash or a capital inside. Dashes become underscores, and a capital inside a
 word becomes an underscore and a small letter; a fact with dashes gets capitals in their place. Those of MEET would meet another name.
 Only whole words change, in .antt files and in the clauses, ghost items and comments' code spans of .rt files. Rust's own names, strings and
-the labels that the check makes stay. A second run changes nothing.
+the labels that the check makes stay, and so does a name in a file that imports it from the library. A second run changes nothing.
 """
 
 import os
@@ -31,6 +31,7 @@ RUST = re.compile(
 CLAUSE = re.compile(
     r"(?:requires|ensures)\s*\*?\s*(?:\w+\s*)?\{|ghost\s*(?:\w+\s*(?::\s*(?:(?:owns|lends)\s*)?|=\s*))?\{"
 )
+LIBRARY = re.compile(r"\buse Rattle\.std\.[\w.]+\.\{([^}]*)\}")
 GHOST_USE = re.compile(r"ghost\s+use\b[^;]*;")
 
 
@@ -141,7 +142,9 @@ def main(argv):
     for p in texts(root):
         with open(p, encoding="utf-8") as f:
             t = f.read()
-        new = turn(t, table) if p.endswith(".antt") else turn_rt(t, table)
+        theirs = {n for items in LIBRARY.findall(t) for n in re.findall(WORD, items)}
+        here = {a: b for a, b in table.items() if a not in theirs}
+        new = turn(t, here) if p.endswith(".antt") else turn_rt(t, here)
         if new != t:
             n += 1
             with open(p, "w", encoding="utf-8") as f:

@@ -1,7 +1,7 @@
 -- A step of the reading, where the field's header and body are there, and what a field that was read is known to be.
 use Rattle.std.proofs.Common.{◌≡◌, ℕ, ◌+◌, ◌<◌, ◌≤◌, Bool, true, false, cond, not, ◌||◌, eqb, ltb, leb, List, [], ◌∷◌, length, Some, None, Ok, Err, sym, refl, ap, ◌∙◌, arith}
 use Rattle.std.proofs.lemmas.List.{length-take, length-drop}
-use Rattle.std.proofs.lemmas.Bool.{not_false}
+use Rattle.std.proofs.lemmas.Bool.{not-false}
 use Rattle.std.proofs.lemmas.Bool.Decides.{nat_tests}
 use Rattle.std.specs.List.{AllByRecursion as All}
 use Rattle.faults.specs.Refusal.{first_met}
@@ -79,6 +79,6 @@ sound job last at p e = go (leb (length job) at) e
         record {
           above = grind (arith, nat_tests);
           known = grind (arith, nat_tests);
-          fits = rw n (not_false _ u.1.1.1.1.0);
+          fits = rw n (not-false _ u.1.1.1.1.0);
           routed = u.1.1.1.1.1.0;
         }

@@ -1,6 +1,6 @@
 -- What holds when a call is not refused.
 use Rattle.std.proofs.Common.{◌≡◌, ℕ, ◌+◌, ◌*◌, ◌<◌, ◌≤◌, Bool, true, false, cond, length, Some, None, Option, refl, arith}
-use Rattle.std.proofs.lemmas.Bool.{leb-false, ltb-false, eqb-true, not_false}
+use Rattle.std.proofs.lemmas.Bool.{leb-false, ltb-false, eqb-true, not-false}
 use Rattle.sheet.specs.Book.{Book}
 use Rattle.systems.specs.Machine.{Machine}
 use Rattle.sheet.specs.Refusals.{report_length, refusal_direct, refusal_report}
@@ -28,7 +28,7 @@ direct_room m b columns scratch e =
     let f = clear _ _ _ d.1 in
     let g = clear _ _ _ f.1 in (
       leb-false (length b.rows) _ c.0,
-      eqb-true m.count b.n (not_false _ d.0),
+      eqb-true m.count b.n (not-false _ d.0),
       ltb-false columns _ f.0,
       ltb-false scratch _ g.0,
     )

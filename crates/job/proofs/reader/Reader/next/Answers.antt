@@ -17,7 +17,11 @@ invariant_of-self c =
     let x = c.in-Some.ensures in
     let n = body_length c.args.self.now.job.now c.args.self.now.at x.0 in
     let k = tag_known c.in-Some-named.field in
-    (c.args.self.now.short, (rw (x.2, n.0) (omega (arith, n.1)), (omega (arith, k.1, c.in-Some-named.ensures.0), tt)))
+    record {
+      short = c.args.self.now.short;
+      within = rw (x.2, n.0) (omega (arith, n.1));
+      known = omega (arith, k.1, c.in-Some-named.ensures.0)
+    }
 
 pub returns : goal.returns
 returns c =
