@@ -2,12 +2,12 @@ use Rattle.std.proofs.Common.{◌/◌, ◌≤◌, length, arith}
 use Rattle.std.proofs.lemmas.Nat.{mul-le}
 use Rattle.answer.proofs.run.run.Goals as goal
 
-pub overflow-mul-states : goal.overflow-mul-states
-overflow-mul-states g c =
+pub overflow_mul-states : goal.overflow_mul-states
+overflow_mul-states g c =
     let few = (g.S.System.sound c.args.system.now).few in
     let rows : length c.args.job.now.formulas.now / 5 ≤ 64 = omega arith in
     let states : c.count-states.result ≤ 65536 = omega (arith, few) in
     omega (arith, mul-le c.count-states.result (length c.args.job.now.formulas.now / 5) 65536 64 states rows)
 
-pub overflow-add-rows : goal.overflow-add-rows
-overflow-add-rows g c = omega arith
+pub overflow_add-rows : goal.overflow_add-rows
+overflow_add-rows g c = omega arith

@@ -4,17 +4,17 @@ use Rattle.kripke.specs.Bounds.{max_nodes}
 use Rattle.translation.proofs.Due.{due_transitions, due_nodes, due_scratch, due_none, all_of}
 use Rattle.translation.proofs.admit.admit.Goals as goal
 
-pub returns-then-transitions-gt-MAX-TRANSITIONS : goal.returns-then-transitions-gt-MAX-TRANSITIONS
-returns-then-transitions-gt-MAX-TRANSITIONS g c =
+pub returns-then-transitions-gt-MAX_TRANSITIONS : goal.returns-then-transitions-gt-MAX_TRANSITIONS
+returns-then-transitions-gt-MAX_TRANSITIONS g c =
     let m = g.S.System.meaning c.args.system.now in
     let a = all_of m c.of-census.result.visible c.of-census.result.silent c.of-census.ensures.visible c.of-census.ensures.silent in (
       due_transitions m c.args.column c.args.list c.args.scratch c.transitions-transitions.result
-          (c.transitions-transitions.ensures ∙ a) (omega (arith, c.count-count.ensures)) (elim c.then-transitions-gt-MAX-TRANSITIONS.either [ inl l ↦ inl l | inr (_, l) ↦ inr l ]),
+          (c.transitions-transitions.ensures ∙ a) (omega (arith, c.count-count.ensures)) (elim c.then-transitions-gt-MAX_TRANSITIONS.either [ inl l ↦ inl l | inr (_, l) ↦ inr l ]),
       tt,
     )
 
-pub returns-then-nodes-gt-MAX-NODES : goal.returns-then-nodes-gt-MAX-NODES
-returns-then-nodes-gt-MAX-NODES g c =
+pub returns-then-nodes-gt-MAX_NODES : goal.returns-then-nodes-gt-MAX_NODES
+returns-then-nodes-gt-MAX_NODES g c =
     let m = g.S.System.meaning c.args.system.now in
     let a = all_of m c.of-census.result.visible c.of-census.result.silent c.of-census.ensures.visible c.of-census.ensures.silent in (
       due_nodes m c.args.column c.args.list c.args.scratch c.transitions-transitions.result
