@@ -1,4 +1,6 @@
 //! Answers many jobs: each line of standard input is a job in hexadecimal, each line of standard output its answer.
+#![tactic(auto)]
+
 mod hex;
 
 use answer::answer::answer;

@@ -1,4 +1,6 @@
 //! Answers the job on standard input with the bytes of its report, or of its first fault's record, on standard output.
+#![tactic(auto)]
+
 use answer::answer::answer;
 use answer::stop::Unanswered;
 use anyhow::anyhow;

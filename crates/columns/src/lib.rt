@@ -1,4 +1,6 @@
 //! Columns of verdicts, and the row that is to be labelled.
+#![tactic(auto)]
+
 pub mod column;
 pub mod connective;
 pub mod parts;

@@ -1,4 +1,6 @@
 //! Every refusal of the checker, by layer, and the record that tells one.
+#![tactic(auto)]
+
 pub mod fault;
 pub mod job;
 pub mod sheet;

@@ -1,4 +1,6 @@
 //! The transitions of a system, counted and gathered.
+#![tactic(auto)]
+
 pub mod census;
 mod counting;
 pub mod gather;

@@ -1,4 +1,6 @@
 //! The reader of a job's bytes.
+#![tactic(auto)]
+
 mod field;
 mod reader;
 #[cfg(test)]

@@ -1,4 +1,6 @@
 //! Kripke structures, and CTL labelled on any of them.
+#![tactic(auto)]
+
 pub mod edge;
 pub mod limits;
 pub mod next;

@@ -1,5 +1,7 @@
 //! Runs CTL on small structures, and rows through the translation.
-#[cfg(test)]
-mod rows;
+#![tactic(auto)]
+
 #[cfg(test)]
 mod structures;
+#[cfg(test)]
+mod translated_rows;

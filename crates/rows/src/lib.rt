@@ -1,4 +1,6 @@
 //! Rows of actions and formulas, and the tests of actions that they stand for.
+#![tactic(auto)]
+
 pub mod meeting;
 pub mod route;
 pub mod rows;

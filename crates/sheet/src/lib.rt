@@ -1,4 +1,6 @@
 //! A sheet of rows, the calls on it, and the report of what it found.
+#![tactic(auto)]
+
 mod admit;
 mod entries;
 mod labels;

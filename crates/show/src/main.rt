@@ -1,4 +1,6 @@
 //! Prints the job on standard input and its report for a person: the machine, each row in words, and what was found.
+#![tactic(auto)]
+
 mod faults_in_words;
 mod findings;
 mod machine;

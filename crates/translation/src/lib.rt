@@ -1,4 +1,6 @@
 //! A machine as a Kripke structure, and one row labelled on it.
+#![tactic(auto)]
+
 mod admit;
 mod argument;
 pub mod label;

@@ -20,7 +20,7 @@ invariant_of-self c =
     record {
       short = c.args.self.now.short;
       within = rw (x.2, n.0) (omega (arith, n.1));
-      known = omega (arith, k.1, c.in-Some-named.ensures.0)
+      known = omega (arith, k.1, c.in-Some-named.ensures.0);
     }
 
 pub returns : goal.returns
