@@ -6,7 +6,7 @@ usage: python3 tools/snake_names.py [--list]     at the top of the repository, a
 A name changes if a file of crates/*/specs or crates/*/proofs declares it (not at a type 'goal.x', which is a name that the check makes),
 it begins with a small letter or joins words by dashes, and it has a dash or a capital inside. Dashes become underscores, and a capital inside a
 word becomes an underscore and a small letter; a fact with dashes gets capitals in their place. Those of MEET would meet another name.
-Only whole words change, in .antt files and in the clauses, ghost items and comments' code spans of .rt files. Rust's own names, strings and
+Only whole words change, in .antt files with their comments, and in the clauses, ghost items and comments' code spans of .rt files. Rust's own names, strings and
 the labels that the check makes stay, and so does a name in a file that imports it from the library. A second run changes nothing.
 """
 
@@ -14,7 +14,7 @@ import os
 import re
 import sys
 
-WORD = r'[^\s(){}.;,@"«»]+'
+WORD = r'[^\s(){}.;,@"«»`]+'
 DECLARED = re.compile(
     r"(?m)^ *(?:(?:pub|abbrev|unfoldable|ruleset) +)*(" + WORD + r")(?: +\{[^{}\n]*\})* *: *(\S+)?"
 )
