@@ -3,7 +3,7 @@ use Rattle.std.proofs.Common.{◌≡◌, ℕ, zero, suc, pred, ◌-◌, ◌<◌,
 use Rattle.std.proofs.lemmas.Bool.{lt-ltb, le-ltb}
 use Rattle.faults.specs.declared.job.JobFault.{JobFault}
 use Rattle.faults.specs.declared.job.JobFault.TheVariants as fault
-use Rattle.job.specs.Parse.{Piece, Parts, next_field, no_parts, go_on, ended, keep, scan, parse}
+use Rattle.job.specs.Parse.{Piece, Parts, next_field, no_parts, go_on, ended, keep, parse_from, parse}
 use Rattle.job.specs.Shown.{WellFormed}
 use Rattle.job.proofs.Steps.{Sound}
 
@@ -13,11 +13,11 @@ pub record Stands (job held : List ℕ) (last at : ℕ) (p : Parts) : Type 0 whe
   pub well : WellFormed p
   pub steps : ℕ
   pub enough : 6 - last < steps
-  pub left : scan steps job last at p ≡ scan 7 job 0 0 no_parts
+  pub left : parse_from steps job last at p ≡ parse_from 7 job 0 0 no_parts
 
 -- the step that is taken at a place
-turn : (job : List ℕ) (last at : ℕ) (p : Parts) (R : Result Parts JobFault) (n : ℕ) → 6 - last < n → scan n job last at p ≡ R → go_on (next_field job last at) (ended job last p) (λ f. scan (pred n) job f.tag f.next (keep f.tag f.body p)) ≡ R
-unfolding scan
+turn : (job : List ℕ) (last at : ℕ) (p : Parts) (R : Result Parts JobFault) (n : ℕ) → 6 - last < n → parse_from n job last at p ≡ R → go_on (next_field job last at) (ended job last p) (λ f. parse_from (pred n) job f.tag f.next (keep f.tag f.body p)) ≡ R
+unfolding parse_from
 turn job last at p R zero h e = absurd (omega arith)
 turn job last at p R (suc n) h e = e
 
@@ -43,12 +43,12 @@ well_none =
     }
 
 module _ (job held : List ℕ) (last at : ℕ) (p : Parts) (s : Stands job held last at p) where
-  here : {q : Result (Option Piece) JobFault} → next_field held last at ≡ q → go_on q (ended job last p) (λ f. scan (pred s.steps) job f.tag f.next (keep f.tag f.body p)) ≡ scan 7 job 0 0 no_parts
+  here : {q : Result (Option Piece) JobFault} → next_field held last at ≡ q → go_on q (ended job last p) (λ f. parse_from (pred s.steps) job f.tag f.next (keep f.tag f.body p)) ≡ parse_from 7 job 0 0 no_parts
   here e =
       let t = turn job last at p _ s.steps s.enough s.left in
       rw (← e, s.same) t
 
-  parsed : length held ≤ 65536 → scan 7 job 0 0 no_parts ≡ parse job
+  parsed : length held ≤ 65536 → parse_from 7 job 0 0 no_parts ≡ parse job
   parsed short = let b : length job ≤ 65536 = rw s.same at short in simp (le-ltb 65536 (length job) b)
 
   pub at_fault : (f : JobFault) → next_field held last at ≡ Err f → length held ≤ 65536 → Err f ≡ parse job

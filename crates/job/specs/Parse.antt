@@ -70,17 +70,17 @@ abbrev pub ended : List ℕ → (last : ℕ) → Parts → Result Parts JobFault
 ended job last p = cond (nat_lt last 4) (Err (fault.Missing (length job))) (Ok p)
 
 -- A fault ends the reading; so does the end; a field goes on.
-abbrev pub go_on : {X : Type 0} → Result (Option Piece) JobFault → (atEnd : Result X JobFault) → (Piece → Result X JobFault) → Result X JobFault
-go_on (Err f) atEnd more = Err f
-go_on (Ok None) atEnd more = atEnd
-go_on (Ok (Some p)) atEnd more = more p
+abbrev pub go_on : {X : Type 0} → Result (Option Piece) JobFault → (at_end : Result X JobFault) → (Piece → Result X JobFault) → Result X JobFault
+go_on (Err f) at_end more = Err f
+go_on (Ok None) at_end more = at_end
+go_on (Ok (Some p)) at_end more = more p
 
 -- Reads from a place on, in at most so many steps; with none left it takes no further field.
-unfoldable pub scan : (steps : ℕ) → List ℕ → (last at : ℕ) → Parts → Result Parts JobFault
-scan zero job last at p = Err (fault.Tag at)
-scan (suc n) job last at p =
-    go_on (next_field job last at) (ended job last p) (λ f. scan n job f.tag f.next (keep f.tag f.body p))
+unfoldable pub parse_from : (steps : ℕ) → List ℕ → (last at : ℕ) → Parts → Result Parts JobFault
+parse_from zero job last at p = Err (fault.Tag at)
+parse_from (suc n) job last at p =
+    go_on (next_field job last at) (ended job last p) (λ f. parse_from n job f.tag f.next (keep f.tag f.body p))
 
 -- The whole job. Tags rise and are at most 6, so that the seventh step meets the end or a fault.
 abbrev pub parse : List ℕ → Result Parts JobFault
-parse job = cond (nat_lt 65536 (length job)) (Err fault.TooLong) (scan 7 job 0 0 no_parts)
+parse job = cond (nat_lt 65536 (length job)) (Err fault.TooLong) (parse_from 7 job 0 0 no_parts)
