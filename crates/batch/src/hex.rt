@@ -1,8 +1,14 @@
 //! Bytes in hexadecimal.
+ghost use Rattle.std.specs.Prelude.{◌<◌, IfSome};
+
+use anyhow::bail;
 use std::alloc::{AllocError, Global};
 
 /// The value of a digit.
-fn digit(byte: u8) -> Option<u8> {
+// Not by to_digit, which takes capital letters too.
+fn digit(byte: u8) -> Option<u8>
+    ensures { IfSome result (λ value. value < 16) }
+{
     match byte {
         b'0'..=b'9' => Some(byte - b'0'),
         b'a'..=b'f' => Some(byte - b'a' + 10),
@@ -10,30 +16,27 @@ fn digit(byte: u8) -> Option<u8> {
     }
 }
 
-/// The bytes of a text of pairs of digits, or nothing if it is none.
-pub fn from_hex(heap: Global, text: &[u8]) -> Result<Option<Vec<u8>>, AllocError> {
-    let mut bytes = Vec::with_capacity(heap, text.len() / 2)?;
-    if text.len() % 2 == 1 {
-        return Ok(None);
+/// The bytes of a text of pairs of digits.
+pub fn from_hex(heap: Global, text: &[u8]) -> anyhow::Result<Vec<u8>> {
+    let (pairs, rest) = text.as_chunks::<2>();
+    if !rest.is_empty() {
+        bail!("a line is not hexadecimal");
     }
-    for k in 0..text.len() / 2 {
-        let Some(high) = digit(text[2 * k]) else {
-            return Ok(None);
+    let mut bytes = Vec::with_capacity(heap, pairs.len())?;
+    for [high, low] in pairs {
+        let (Some(high), Some(low)) = (digit(*high), digit(*low)) else {
+            bail!("a line is not hexadecimal");
         };
-        let Some(low) = digit(text[2 * k + 1]) else {
-            return Ok(None);
-        };
-        bytes.push((high & 15) * 16 + (low & 15))?;
+        bytes.push(high * 16 + low)?;
     }
-    Ok(Some(bytes))
+    Ok(bytes)
 }
 
 /// The text of some bytes.
 pub fn to_hex(heap: Global, bytes: &[u8]) -> Result<String, AllocError> {
     let mut text = String::new(heap);
     for byte in bytes {
-        let pair = format!(in heap; "{byte:02x}")?;
-        text.push_str(pair.as_str())?;
+        write!(text, "{byte:02x}")?;
     }
     Ok(text)
 }

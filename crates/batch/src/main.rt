@@ -5,20 +5,17 @@ mod hex;
 
 use answer::answer::answer;
 use answer::stop::Unanswered;
-use anyhow::anyhow;
 use hex::{from_hex, to_hex};
 use std::alloc::Global;
 use std::io::{BufRead, BufReader};
 
 /// The line for a job's line.
 fn answer_line(heap: Global, line: &str) -> anyhow::Result<String> {
-    let Some(job) = from_hex(heap, line.as_bytes())? else {
-        return Err(anyhow!("a line is not hexadecimal"));
-    };
+    let job = from_hex(heap, line.as_bytes())?;
     match answer(heap, &job) {
         Ok(bytes) => Ok(to_hex(heap, &bytes)?),
         Err(Unanswered::Translated) => Ok(String::from_str(heap, "translated")?),
-        Err(Unanswered::Memory) => Err(anyhow!("not enough memory")),
+        Err(reason) => Err(reason.into()),
     }
 }
 

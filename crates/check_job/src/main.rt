@@ -2,19 +2,15 @@
 #![tactic(auto)]
 
 use answer::answer::answer;
-use answer::stop::Unanswered;
-use anyhow::anyhow;
 use std::io::{Read, Write};
 
 /// Reads the job, and writes the answer.
 fn check(rt: &HostRuntime) -> anyhow::Result<()> {
     let mut job = Vec::new(rt.alloc());
     rt.stdin().read_to_end(&mut job)?;
-    match answer(rt.alloc(), &job) {
-        Ok(bytes) => Ok(rt.stdout().write_all(&bytes)?),
-        Err(Unanswered::Translated) => Err(anyhow!("the translated route is not there yet")),
-        Err(Unanswered::Memory) => Err(anyhow!("not enough memory")),
-    }
+    let bytes = answer(rt.alloc(), &job)?;
+    rt.stdout().write_all(&bytes)?;
+    Ok(())
 }
 
 fn main(rt: HostRuntime) -> anyhow::Result<()> {

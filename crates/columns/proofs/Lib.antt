@@ -2,3 +2,4 @@ pub mod Bytes
 pub mod Bits
 pub mod Places
 pub mod Turns
+pub mod Marked

@@ -3,6 +3,8 @@
 
 pub mod column;
 pub mod connective;
+pub mod mark;
 pub mod parts;
 pub mod quantifier;
+pub mod query;
 pub mod task;

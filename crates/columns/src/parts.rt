@@ -8,9 +8,10 @@ use crate::quantifier::Quantifier;
 use crate::quantifier::Quantifier::{Always, Exists};
 use rows::rows::FormulaRow;
 
+// 0 and no Option: each operator is defined over two tests and two rows, and its verdict does not rest on one that it has no use for.
 /// A formula row as its operator, and the numbers of the rows that it names: the action rows on the way and at its end, and
 /// the formula rows. A number that the operator does not use is 0, and a formula row that it names alone stands twice.
-#[derive(Clone, Copy)]
+#[derive(Clone, Copy, PartialEq, Eq, Debug)]
 pub struct Parts {
     pub quantifier: Quantifier,
     pub connective: Connective,
@@ -36,12 +37,14 @@ impl Parts {
             last: rows.1,
         }
     }
+}
 
-    /// The parts of a row.
-    pub fn of_row(row: &FormulaRow) -> Parts
-        ensures { Parted row.now result }
-    {
-        match *row {
+/// The parts of a row.
+impl From<FormulaRow> for Parts {
+    ghost from_gives = { Parted };
+
+    fn from(row: FormulaRow) -> Parts {
+        match row {
             FormulaRow::True => Parts::new(Exists, True, (0, 0), (0, 0)),
             FormulaRow::Not(p) => Parts::new(Exists, Not, (0, 0), (p, p)),
             FormulaRow::And(p, q) => Parts::new(Exists, And, (0, 0), (p, q)),

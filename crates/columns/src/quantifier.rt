@@ -1,7 +1,7 @@
 //! Path quantifiers.
 
 /// Some full path, or every one.
-#[derive(Clone, Copy)]
+#[derive(Clone, Copy, PartialEq, Eq, Debug)]
 pub enum Quantifier {
     Exists,
     Always,

@@ -2,6 +2,4 @@
 #![tactic(auto)]
 
 pub mod label;
-mod once;
-mod rounds;
-mod walk;
+mod labelling;

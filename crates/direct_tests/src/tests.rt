@@ -1,4 +1,5 @@
 //! Columns and rounds of rows on small tables.
+use columns::query::Query;
 use direct::label::label;
 use rows::rows::{ActionRow, FormulaRow};
 use systems::row::Row;
@@ -6,7 +7,7 @@ use systems::table::Table;
 
 const ANY: u8 = 0;
 
-fn transition(source: usize, action: u8, target: usize) -> Row {
+fn row(source: usize, action: u8, target: usize) -> Row {
     Row {
         source,
         action,
@@ -26,20 +27,20 @@ fn labelled<const N: usize>(
         start: 0,
         rows,
     };
+    let query = Query {
+        actions,
+        row,
+        earlier,
+    };
     let mut column = [7; N];
     let mut scratch = [7; N];
-    let rounds = label(&table, actions, &row, earlier, &mut column, &mut scratch);
+    let rounds = label(&table, query, &mut column, &mut scratch);
     (rounds, column)
 }
 
 #[test]
 fn three_states(rt: HostRuntime) {
-    let rows = [
-        transition(0, 1, 0),
-        transition(0, 2, 1),
-        transition(1, 3, 2),
-        transition(2, 1, 0),
-    ];
+    let rows = [row(0, 1, 0), row(0, 2, 1), row(1, 3, 2), row(2, 1, 0)];
     let actions = [ActionRow::Any, ActionRow::Not(0), ActionRow::Is(3)];
     let all = labelled::<3>(&rows, &actions, FormulaRow::True, &[]);
     assert_eq!(rt; all, (Some(0), [1, 1, 1]));
@@ -77,7 +78,7 @@ fn dead_state(rt: HostRuntime) {
 
 #[test]
 fn silent_loop(rt: HostRuntime) {
-    let rows = [transition(0, 0, 0)];
+    let rows = [row(0, 0, 0)];
     let actions = [ActionRow::Any, ActionRow::Is(5), ActionRow::Not(1)];
     let not_five = FormulaRow::ExistsNext { by: 2, then: 0 };
     assert_eq!(rt; labelled::<1>(&rows, &actions, not_five, &[1]).1, [0]);
@@ -98,7 +99,7 @@ fn silent_loop(rt: HostRuntime) {
 
 #[test]
 fn silent_then_seen(rt: HostRuntime) {
-    let rows = [transition(0, 0, 0), transition(0, 1, 1)];
+    let rows = [row(0, 0, 0), row(0, 1, 1)];
     let actions = [ActionRow::Any, ActionRow::Not(0), ActionRow::Is(1)];
     let some = FormulaRow::ExistsUntilBy {
         hold: 0,
@@ -118,7 +119,7 @@ fn silent_then_seen(rt: HostRuntime) {
 
 #[test]
 fn no_state_holds(rt: HostRuntime) {
-    let rows = [transition(0, 1, 1)];
+    let rows = [row(0, 1, 1)];
     let row = FormulaRow::ExistsUntilBy {
         hold: 1,
         by: ANY,
@@ -136,16 +137,14 @@ fn no_room(rt: HostRuntime) {
         start: 0,
         rows: &[],
     };
+    let query = Query {
+        actions: &[],
+        row: FormulaRow::True,
+        earlier: &[],
+    };
     let mut column = [7; 2];
     let mut scratch = [7; 1];
-    let answer = label(
-        &table,
-        &[],
-        &FormulaRow::True,
-        &[],
-        &mut column,
-        &mut scratch,
-    );
+    let answer = label(&table, query, &mut column, &mut scratch);
     assert_eq!(rt; answer, None);
     assert_eq!(rt; column, [7, 7]);
     assert_eq!(rt; scratch, [7]);

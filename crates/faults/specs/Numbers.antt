@@ -1,5 +1,5 @@
 -- The layer, the number and the place of each fault.
-use Rattle.std.specs.Prelude.{ℕ}
+use Rattle.std.specs.Prelude.{◌≡◌, ◌≢◌, ℕ, ◌%◌, ◌^◌, Some, None, Option}
 use Rattle.faults.specs.declared.job.JobFault.{JobFault}
 use Rattle.faults.specs.declared.job.JobFault.TheVariants.{TooLong, PastEnd, Tag, Missing, Length, Route}
 use Rattle.faults.specs.declared.system.SystemFault.{SystemFault}
@@ -78,3 +78,13 @@ abbrev pub place : Fault → ℕ
 place (Job f) = job_place f
 place (System f) = system_place f
 place (Sheet f) = sheet_place f
+
+-- The fault has this number and this place; there is none where no fault has them, by the four bytes of its place.
+abbrev pub CodedBy : {F : Type 0} → (F → ℕ) → (F → ℕ) → ℕ → ℕ → Option F → Type 0
+CodedBy number place n p (Some f) = (number f ≡ n) × (place f ≡ p)
+CodedBy {F} number place n p None = (f : F) → number f ≡ n → place f % 2 ^ 32 ≢ p
+
+-- The same for a fault of any layer.
+abbrev pub FaultCoded : ℕ → ℕ → ℕ → Option Fault → Type 0
+FaultCoded l n p (Some f) = (layer f ≡ l) × (number f ≡ n) × (place f ≡ p)
+FaultCoded l n p None = (f : Fault) → layer f ≡ l → number f ≡ n → place f % 2 ^ 32 ≢ p

@@ -1,6 +1,12 @@
 //! Layer 1: what is wrong with a job's bytes.
-ghost use Rattle.std.specs.Prelude.{◌≡◌};
-ghost use Rattle.faults.specs.Numbers.{job_number, job_place};
+ghost use Rattle.std.specs.Prelude.{◌≡◌, Some};
+ghost use Rattle.faults.specs.Numbers.{CodedBy, job_number, job_place};
+ghost use Rattle.faults.specs.Words.{fault_in_words};
+ghost use Rattle.faults.specs.declared.fault.Fault.TheVariants as layer;
+
+use crate::fault::Fault;
+use std::error::Error;
+use std::fmt;
 
 /// A fault of a job. Its place is the offset of the field's tag, or the job's length where a field is missing at the end.
 #[derive(Clone, Copy, PartialEq, Eq, Debug)]
@@ -18,6 +24,16 @@ pub enum JobFault {
     /// There is no such route.
     Route(u32),
 }
+
+impl fmt::Display for JobFault {
+    ghost output = { λ fault. Some (fault_in_words (layer.Job fault)) };
+
+    fn fmt<W: fmt::Write>(&self, f: &mut fmt::Formatter<W>) -> fmt::Result {
+        Fault::from(*self).fmt(f)
+    }
+}
+
+impl Error for JobFault {}
 
 impl JobFault {
     /// The fault's number.
@@ -40,11 +56,26 @@ impl JobFault {
     {
         match self {
             JobFault::TooLong => 0,
-            JobFault::PastEnd(at) => *at,
-            JobFault::Tag(at) => *at,
-            JobFault::Missing(at) => *at,
-            JobFault::Length(at) => *at,
-            JobFault::Route(at) => *at,
+            JobFault::PastEnd(at)
+            | JobFault::Tag(at)
+            | JobFault::Missing(at)
+            | JobFault::Length(at)
+            | JobFault::Route(at) => *at,
+        }
+    }
+
+    /// The fault of this number at this place, if there is one.
+    pub(crate) fn coded(number: u8, place: u32) -> Option<JobFault>
+        ensures { CodedBy job_number job_place number place result }
+    {
+        match (number, place) {
+            (1, 0) => Some(JobFault::TooLong),
+            (2, at) => Some(JobFault::PastEnd(at)),
+            (3, at) => Some(JobFault::Tag(at)),
+            (4, at) => Some(JobFault::Missing(at)),
+            (5, at) => Some(JobFault::Length(at)),
+            (6, at) => Some(JobFault::Route(at)),
+            _ => None,
         }
     }
 }

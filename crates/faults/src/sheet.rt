@@ -1,6 +1,12 @@
 //! Layer 3: what is wrong with a call on a sheet.
-ghost use Rattle.std.specs.Prelude.{◌≡◌};
-ghost use Rattle.faults.specs.Numbers.{sheet_number, sheet_place};
+ghost use Rattle.std.specs.Prelude.{◌≡◌, Some};
+ghost use Rattle.faults.specs.Numbers.{CodedBy, sheet_number, sheet_place};
+ghost use Rattle.faults.specs.Words.{fault_in_words};
+ghost use Rattle.faults.specs.declared.fault.Fault.TheVariants as layer;
+
+use crate::fault::Fault;
+use std::error::Error;
+use std::fmt;
 
 /// A fault of a call on a sheet.
 #[derive(Clone, Copy, PartialEq, Eq, Debug)]
@@ -29,6 +35,16 @@ pub enum SheetFault {
     Output,
 }
 
+impl fmt::Display for SheetFault {
+    ghost output = { λ fault. Some (fault_in_words (layer.Sheet fault)) };
+
+    fn fmt<W: fmt::Write>(&self, f: &mut fmt::Formatter<W>) -> fmt::Result {
+        Fault::from(*self).fmt(f)
+    }
+}
+
+impl Error for SheetFault {}
+
 impl SheetFault {
     /// The fault's number.
     pub fn number(&self) -> u8
@@ -54,17 +70,36 @@ impl SheetFault {
         ensures { result ≡ sheet_place self.now }
     {
         match self {
-            SheetFault::States => 0,
-            SheetFault::Full(row) => *row,
-            SheetFault::Kind(row) => *row,
-            SheetFault::NotEarlier(row) => *row,
-            SheetFault::NotNoted(row) => *row,
-            SheetFault::Finished(rows) => *rows,
-            SheetFault::StateCount(rows) => *rows,
-            SheetFault::Columns(rows) => *rows,
-            SheetFault::Scratch(rows) => *rows,
-            SheetFault::NoVerdict(row) => *row,
-            SheetFault::Output => 0,
+            SheetFault::States | SheetFault::Output => 0,
+            SheetFault::Full(row)
+            | SheetFault::Kind(row)
+            | SheetFault::NotEarlier(row)
+            | SheetFault::NotNoted(row)
+            | SheetFault::NoVerdict(row) => *row,
+            SheetFault::Finished(rows)
+            | SheetFault::StateCount(rows)
+            | SheetFault::Columns(rows)
+            | SheetFault::Scratch(rows) => *rows,
+        }
+    }
+
+    /// The fault of this number at this place, if there is one.
+    pub(crate) fn coded(number: u8, place: u32) -> Option<SheetFault>
+        ensures { CodedBy sheet_number sheet_place number place result }
+    {
+        match (number, place) {
+            (10, 0) => Some(SheetFault::States),
+            (11, row) => Some(SheetFault::Full(row)),
+            (12, row) => Some(SheetFault::Kind(row)),
+            (13, row) => Some(SheetFault::NotEarlier(row)),
+            (14, row) => Some(SheetFault::NotNoted(row)),
+            (15, rows) => Some(SheetFault::Finished(rows)),
+            (16, rows) => Some(SheetFault::StateCount(rows)),
+            (17, rows) => Some(SheetFault::Columns(rows)),
+            (18, rows) => Some(SheetFault::Scratch(rows)),
+            (21, row) => Some(SheetFault::NoVerdict(row)),
+            (22, 0) => Some(SheetFault::Output),
+            _ => None,
         }
     }
 }

@@ -2,7 +2,6 @@
 #![tactic(auto)]
 
 pub mod census;
-mod counting;
 pub mod gather;
 mod sight;
 #[cfg(test)]

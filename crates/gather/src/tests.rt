@@ -22,13 +22,12 @@ fn row(source: usize, action: u8, target: usize) -> Row {
     }
 }
 
-fn triple(entry: Transition) -> (usize, u8, usize) {
-    (entry.source, entry.action, entry.target)
-}
-
-fn counts(census: Option<Census>) -> Option<(usize, usize, bool)> {
-    let census = census?;
-    Some((census.visible, census.silent, census.dead))
+fn transition(source: usize, action: u8, target: usize) -> Transition {
+    Transition {
+        source,
+        action,
+        target,
+    }
 }
 
 #[test]
@@ -46,13 +45,21 @@ fn three_states(rt: HostRuntime) {
         actions: ActionSet { bytes },
     };
     let mut list = [BLANK; 6];
-    assert_eq!(rt; counts(gather(&system, &mut list)), Some((3, 1, false)));
-    assert_eq!(rt; triple(list[0]), (0, 1, 0));
-    assert_eq!(rt; triple(list[1]), (0, 2, 1));
-    assert_eq!(rt; triple(list[2]), (2, 1, 0));
-    assert_eq!(rt; triple(list[3]), (1, 0, 2));
-    assert_eq!(rt; triple(list[4]), triple(BLANK));
-    assert_eq!(rt; triple(list[5]), triple(BLANK));
+    let census = Census {
+        visible: 3,
+        silent: 1,
+        dead: false,
+    };
+    assert_eq!(rt; gather(&system, &mut list), Some(census));
+    let gathered = [
+        transition(0, 1, 0),
+        transition(0, 2, 1),
+        transition(2, 1, 0),
+        transition(1, 0, 2),
+        BLANK,
+        BLANK,
+    ];
+    assert_eq!(rt; list, gathered);
 }
 
 #[test]
@@ -64,14 +71,17 @@ fn short_list_and_dead_state(rt: HostRuntime) {
         rows: &rows,
     };
     let mut list = [BLANK; 3];
-    assert_eq!(rt; counts(gather(&table, &mut list)), None);
-    for entry in list {
-        assert_eq!(rt; triple(entry), triple(BLANK));
-    }
+    assert_eq!(rt; gather(&table, &mut list), None);
+    assert_eq!(rt; list, [BLANK; 3]);
     let empty = Table {
         count: 1,
         start: 0,
         rows: &[],
     };
-    assert_eq!(rt; counts(gather(&empty, &mut list)), Some((0, 0, true)));
+    let census = Census {
+        visible: 0,
+        silent: 0,
+        dead: true,
+    };
+    assert_eq!(rt; gather(&empty, &mut list), Some(census));
 }

@@ -1,3 +1,3 @@
-pub mod Cuts
 pub mod Steps
 pub mod Turns
+pub mod Routes

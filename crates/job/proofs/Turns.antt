@@ -1,16 +1,14 @@
 -- A turn of the reading of a whole job.
-use Rattle.std.proofs.Common.{◌≡◌, ℕ, zero, suc, pred, ◌-◌, ◌<◌, ◌≤◌, List, length, Some, None, Ok, Err, Option, Result, refl, ◌∙◌, arith}
+use Rattle.std.proofs.Common.{◌≡◌, ℕ, zero, suc, pred, ◌-◌, ◌<◌, ◌≤◌, List, length, Some, None, Ok, Err, Option, Result, ◌∙◌, arith}
 use Rattle.std.proofs.lemmas.Bool.{lt-ltb, le-ltb}
 use Rattle.faults.specs.declared.job.JobFault.{JobFault}
 use Rattle.faults.specs.declared.job.JobFault.TheVariants as fault
 use Rattle.job.specs.Parse.{Piece, Parts, next_field, no_parts, go_on, ended, keep, parse_from, parse}
-use Rattle.job.specs.Shown.{WellFormed}
 use Rattle.job.proofs.Steps.{Sound}
 
 -- what is left to read gives what the whole job gives
 pub record Stands (job held : List ℕ) (last at : ℕ) (p : Parts) : Type 0 where
   pub same : held ≡ job
-  pub well : WellFormed p
   pub steps : ℕ
   pub enough : 6 - last < steps
   pub left : parse_from steps job last at p ≡ parse_from 7 job 0 0 no_parts
@@ -25,22 +23,6 @@ turn job last at p R (suc n) h e = e
 fewer : (last tag n : ℕ) → last < tag → tag ≤ 6 → 6 - last < n → 6 - tag < pred n
 fewer last tag zero a b h = absurd (omega arith)
 fewer last tag (suc n) a b h = omega arith
-
-pub well_none : WellFormed no_parts
-well_none =
-    record {
-      states = omega arith;
-      start = omega arith;
-      route = omega arith;
-      table = refl;
-      table_rows = omega arith;
-      actions = refl;
-      action_rows = omega arith;
-      formulas = refl;
-      formula_rows = omega arith;
-      mailbox = tt;
-      hiding = tt;
-    }
 
 module _ (job held : List ℕ) (last at : ℕ) (p : Parts) (s : Stands job held last at p) where
   here : {q : Result (Option Piece) JobFault} → next_field held last at ≡ q → go_on q (ended job last p) (λ f. parse_from (pred s.steps) job f.tag f.next (keep f.tag f.body p)) ≡ parse_from 7 job 0 0 no_parts
@@ -68,12 +50,11 @@ module _ (job held : List ℕ) (last at : ℕ) (p : Parts) (s : Stands job held 
     pub at_whole : 4 ≤ last' → Ok p ≡ parse job
     at_whole l = let b : 4 ≤ last = omega arith in simp (le-ltb last 4 b) at at_end
 
-  pub at_field : (f : Piece) → next_field held last at ≡ Ok (Some f) → Sound last f → (held' : List ℕ) → held' ≡ held → (last' : ℕ) → last' ≡ f.tag → (p' : Parts) → p' ≡ keep f.tag f.body p → WellFormed p' → Stands job held' last' f.next p'
-  at_field f e k held' h last' t p' g w =
+  pub at_field : (f : Piece) → next_field held last at ≡ Ok (Some f) → Sound last f → (held' : List ℕ) → held' ≡ held → (last' : ℕ) → last' ≡ f.tag → (p' : Parts) → p' ≡ keep f.tag f.body p → Stands job held' last' f.next p'
+  at_field f e k held' h last' t p' g =
       rw (t, g)
       record {
         same = h ∙ s.same;
-        well = rw g at w;
         steps = pred s.steps;
         enough = fewer last f.tag s.steps k.above k.known s.enough;
         left = here e;

@@ -1,10 +1,11 @@
 -- How the reader's calls follow the definitions.
-use Rattle.std.specs.Prelude.{◌≡◌, ℕ, ◌<◌, ◌≤◌, true, false, List, length, take, Some, None, Ok, Err, Option, Result}
+use Rattle.std.specs.Prelude.{◌≡◌, ℕ, ◌≤◌, true, false, List, Some, None, Ok, Err, Option, Result}
 use Rattle.std.specs.Borrow.{Bor}
 use Rattle.faults.specs.declared.job.JobFault.{JobFault}
 use Rattle.job.specs.Fields.{tag_at, body_at, past_end}
 use Rattle.job.specs.Parse.{next_field}
 use Rattle.job.specs.declared.field.Field.{Field}
+use Rattle.job.specs.declared.reader.Reader.{Reader}
 use Rattle.job.specs.declared.field.Field.TheVariants.{Head, Table, Actions, Formulas, Mailbox, Hiding}
 
 -- The tag of each field.
@@ -29,19 +30,25 @@ abbrev pub Named : (tag : ℕ) (body : List ℕ) → Option Field → Type 0
 Named tag body None = 1 ≤ tag → tag ≤ 6 → ⊥
 Named tag body (Some f) = (tag_of f ≡ tag) × (body_of f ≡ body)
 
--- So many bytes from the front, unless they run past the end.
-abbrev pub Front : List ℕ → (count : ℕ) → Option (Bor (List ℕ)) → Type 0
-Front bytes count None = length bytes < count
-Front bytes count (Some x) = (count ≤ length bytes) × (x.now ≡ take count bytes)
-
 -- The header's tag and the body, unless one runs past the end.
 abbrev pub Cut : List ℕ → (at : ℕ) → Option (ℕ × Bor (List ℕ)) → Type 0
 Cut job at None = past_end job at ≡ true
 Cut job at (Some x) = (past_end job at ≡ false) × (x.0 ≡ tag_at job at) × (x.1.now ≡ body_at job at)
 
--- A step of the reader, from a tag and a place to a tag and a place.
-abbrev pub Steps : List ℕ → (last at last' at' : ℕ) → Result (Option Field) JobFault → Type 0
-Steps job last at last' at' (Err f) = (next_field job last at ≡ Err f) × (last' ≡ last) × (at' ≡ at)
-Steps job last at last' at' (Ok None) = (next_field job last at ≡ Ok None) × (last' ≡ last) × (at' ≡ at)
-Steps job last at last' at' (Ok (Some f)) =
-    (next_field job last at ≡ Ok (Some (record { tag = tag_of f; body = body_of f; next = at' }))) × (last' ≡ tag_of f)
+-- What a reader reads, the place up to which it has read, and the tag of the last field that it read, or 0.
+abbrev pub job_of : Reader → List ℕ
+job_of r = r.job.now
+
+abbrev pub place_of : Reader → ℕ
+place_of r = r.at
+
+abbrev pub last_of : Reader → ℕ
+last_of r = r.last
+
+-- A step of the reader, which stays where it is at a fault and at the end.
+abbrev pub Steps : Reader → Result (Option Field) JobFault → Reader → Type 0
+Steps r (Err f) r' = (next_field (job_of r) (last_of r) (place_of r) ≡ Err f) × (last_of r' ≡ last_of r) × (place_of r' ≡ place_of r)
+Steps r (Ok None) r' = (next_field (job_of r) (last_of r) (place_of r) ≡ Ok None) × (last_of r' ≡ last_of r) × (place_of r' ≡ place_of r)
+Steps r (Ok (Some f)) r' =
+    (next_field (job_of r) (last_of r) (place_of r) ≡ Ok (Some (record { tag = tag_of f; body = body_of f; next = place_of r' })))
+    × (last_of r' ≡ tag_of f)

@@ -3,8 +3,11 @@ ghost use Rattle.std.specs.Prelude.{◌≡◌, ℕ, ◌<◌, true, length};
 ghost use Rattle.job.specs.Fields.{are_rows, fitting, no_route};
 ghost use Rattle.job.specs.Reading.{tag_of, body_of, Named};
 
+use rows::route::Route;
+
+// Each case holds a slice of the job: a rule of the project (docs/DECISIONS.md).
 /// A field of a job, with its body, which is a part of the job.
-#[derive(Clone, Copy)]
+#[derive(Clone, Copy, PartialEq, Eq, Debug)]
 pub enum Field<'a> {
     /// States, start and route.
     Head(&'a [u8]),
@@ -64,7 +67,7 @@ impl<'a> Field<'a> {
         ensures { result ≡ no_route (tag_of self.now) (body_of self.now) }
     {
         match self {
-            Field::Head(body) => body[4] > 1,
+            Field::Head([_, _, _, _, route]) => Route::try_from(*route).is_err(),
             _ => false,
         }
     }

@@ -1,13 +1,11 @@
 //! The reader of a job's fields, one after another.
-ghost use Rattle.std.specs.Prelude.{◌≡◌, ◌+◌, ◌*◌, ◌<◌, ◌≤◌, length, MatchResult, nat_le};
-ghost use Rattle.faults.specs.declared.job.JobFault.TheVariants as fault;
-ghost use Rattle.job.specs.Fields.{skips};
-ghost use Rattle.job.specs.Reading.{Front, Cut, Steps};
+ghost use Rattle.std.specs.Prelude.{◌≤◌, length};
 
 use crate::field::Field;
 use faults::job::JobFault;
 
 /// A job, the place up to which it is read, and the tag of the last field that was read, or 0.
+// The last tag is a number and no enum: the next one must be above it, and up to 4 just one above it.
 #[derive(Drop)]
 pub struct Reader<'a> {
     job: &'a [u8],
@@ -18,28 +16,16 @@ pub struct Reader<'a> {
     ghost known: { last ≤ 6 },
 }
 
-/// The length that a header says.
-fn said_length(hi: u8, lo: u8) -> usize
-    ensures { result ≡ hi * 256 + lo }
-{
-    hi as usize * 256 + lo as usize
-}
-
-/// So many bytes from the front, unless they run past the end.
-fn front(bytes: &[u8], count: usize) -> Option<&[u8]>
-    ensures { Front bytes.now count result }
-{
-    if count > bytes.len() {
-        return None;
-    }
-    Some(&bytes[..count])
-}
-
 impl<'a> Reader<'a> {
+    ghost use Rattle.std.specs.Prelude.{◌≡◌, ◌<◌, MatchResult, nat_le};
+    ghost use Rattle.faults.specs.declared.job.JobFault.TheVariants as fault;
+    ghost use Rattle.job.specs.Fields.{skips};
+    ghost use Rattle.job.specs.Reading.{job_of, place_of, last_of, Cut, Steps};
+
     /// A reader at the start of a job.
     pub(crate) fn new(job: &'a [u8]) -> Reader<'a>
         requires { length job.now ≤ 65536 }
-        ensures { (result.job.now ≡ job.now) × (result.at ≡ 0) × (result.last ≡ 0) }
+        ensures { (job_of result ≡ job.now) × (place_of result ≡ 0) × (last_of result ≡ 0) }
     {
         Reader {
             job,
@@ -50,33 +36,36 @@ impl<'a> Reader<'a> {
 
     /// The tag and the body at the place, unless the header or the body runs past the end.
     fn cut(&self) -> Option<(u8, &'a [u8])>
-        ensures { Cut self.now.job.now self.now.at result }
+        ensures { Cut (job_of self.now) (place_of self.now) result }
     {
         let [tag, hi, lo, rest @ ..] = &self.job[self.at..] else {
             return None;
         };
-        let body = front(rest, said_length(*hi, *lo))?;
+        let length = u16::from_be_bytes([*hi, *lo]);
+        let body = rest.get(..usize::from(length))?;
         Some((*tag, body))
     }
 
     /// Whether a tag is not above the last one.
     fn is_behind(&self, tag: u8) -> bool
-        ensures { result ≡ nat_le tag self.now.last }
+        ensures { result ≡ nat_le tag (last_of self.now) }
     {
         tag <= self.last
     }
 
     /// Whether a tag skips a field that every job has.
     fn skips(&self, tag: u8) -> bool
-        ensures { result ≡ skips self.now.last tag }
+        ensures { result ≡ skips (last_of self.now) tag }
     {
         self.last < 4 && tag > self.last + 1
     }
 
     /// The next field, or nothing at the end, or the field's first fault.
+    // No Iterator: a `for` asks that the items end, and a reader stays at a fault. To end there it would need one state more, and clauses
+    // for it.
     pub fn next(&mut self) -> Result<Option<Field<'a>>, JobFault>
-        ensures same { self.new.job.now ≡ self.old.job.now }
-        ensures steps { Steps self.old.job.now self.old.last self.old.at self.new.last self.new.at result }
+        ensures same { job_of self.new ≡ job_of self.old }
+        ensures steps { Steps self.old result self.new }
     {
         if self.at >= self.job.len() {
             return Ok(None);
@@ -107,7 +96,7 @@ impl<'a> Reader<'a> {
 
     /// Refuses a job that ends before each of the fields 1 to 4 has come.
     pub fn finish(&self) -> Result<(), JobFault>
-        ensures { MatchResult result (λ _. 4 ≤ self.now.last) (λ f. (self.now.last < 4) × (f ≡ fault.Missing (length self.now.job.now))) }
+        ensures { MatchResult result (λ _. 4 ≤ last_of self.now) (λ f. (last_of self.now < 4) × (f ≡ fault.Missing (length (job_of self.now)))) }
     {
         if self.last < 4 {
             return Err(JobFault::Missing(self.job.len() as u32));

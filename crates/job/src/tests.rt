@@ -1,4 +1,6 @@
 //! Jobs, sound and broken.
+ghost use Rattle.std.specs.Prelude.{◌<◌};
+
 use crate::read_job;
 use faults::job::JobFault;
 use rows::route::Route;
@@ -14,18 +16,15 @@ const SOUND: [u8; 61] = [
 ];
 
 fn fault_of(job: &[u8]) -> Option<JobFault> {
-    match read_job(job) {
-        Ok(_) => None,
-        Err(fault) => Some(fault),
-    }
+    read_job(job).err()
 }
 
 /// The fault of the sound job with another byte at a place.
-fn fault_with(at: usize, byte: u8) -> Option<JobFault> {
+fn fault_with(at: usize, byte: u8) -> Option<JobFault>
+    requires { at < 61 }
+{
     let mut job = SOUND;
-    if at < 61 {
-        job[at] = byte;
-    }
+    job[at] = byte;
     fault_of(&job)
 }
 
@@ -34,12 +33,8 @@ fn fault_at(heap: Global, fields: &[(u8, u16)]) -> Result<Option<JobFault>, Allo
     let mut job = Vec::new(heap);
     for (tag, length) in fields {
         let [hi, lo] = length.to_be_bytes();
-        job.push(*tag)?;
-        job.push(hi)?;
-        job.push(lo)?;
-        for _ in 0..*length {
-            job.push(0)?;
-        }
+        job.extend_from_slice(&[*tag, hi, lo])?;
+        job.resize(job.len() + usize::from(*length), 0)?;
     }
     Ok(fault_of(&job))
 }

@@ -1,5 +1,4 @@
 pub mod Listed
 pub mod Walked
-pub mod Answer
-pub mod Rounds
+pub mod Joined
 pub mod Labelled

@@ -4,6 +4,7 @@
 pub mod edge;
 pub mod limits;
 pub mod next;
+mod rounds;
 pub mod structure;
 pub mod table;
 pub mod until;

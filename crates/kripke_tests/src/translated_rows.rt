@@ -1,4 +1,5 @@
 //! Rows through the translation, on machines that can be worked out by hand.
+use columns::query::Query;
 use compose::hiding::Hiding;
 use compose::product::Product;
 use direct::label::label as label_directly;
@@ -22,7 +23,7 @@ const UNUSED: Transition = Transition {
     target: 9,
 };
 
-fn transition(source: usize, action: u8, target: usize) -> Row {
+fn row(source: usize, action: u8, target: usize) -> Row {
     Row {
         source,
         action,
@@ -37,39 +38,35 @@ fn set(first: u8) -> ActionSet {
     ActionSet { bytes }
 }
 
+const TESTS: [ActionRow; 3] = [ActionRow::Any, ActionRow::Not(0), ActionRow::Is(3)];
+
+/// A formula row over these tests, and the columns of the rows before it.
+fn asked(row: FormulaRow, earlier: &[u8]) -> Query<'static, '_> {
+    Query {
+        actions: &TESTS,
+        row,
+        earlier,
+    }
+}
+
 /// The rounds of a row on a system of `N` states, and its column.
 fn labelled<const N: usize, S: System>(
     system: &S,
-    actions: &[ActionRow],
     row: FormulaRow,
     earlier: &[u8],
 ) -> (Result<usize, Unlabelled>, [u8; N]) {
     let mut column = [7; N];
     let mut list = [UNUSED; 8];
     let mut scratch = [7; 64];
-    let rounds = label(
-        system,
-        actions,
-        &row,
-        earlier,
-        &mut column,
-        &mut list,
-        &mut scratch,
-    );
+    let query = asked(row, earlier);
+    let rounds = label(system, query, &mut column, &mut list, &mut scratch);
     (rounds, column)
 }
 
 /// Four transitions between three states.
 fn four() -> [Row; 4] {
-    [
-        transition(0, 1, 0),
-        transition(0, 2, 1),
-        transition(1, 3, 2),
-        transition(2, 1, 0),
-    ]
+    [row(0, 1, 0), row(0, 2, 1), row(1, 3, 2), row(2, 1, 0)]
 }
-
-const TESTS: [ActionRow; 3] = [ActionRow::Any, ActionRow::Not(0), ActionRow::Is(3)];
 
 const BY_THREE: FormulaRow = FormulaRow::AllUntilBy {
     hold: 0,
@@ -86,16 +83,16 @@ fn three_states(rt: HostRuntime) {
         start: 0,
         rows: &rows,
     };
-    let all = labelled::<3, Table<'_>>(&table, &TESTS, FormulaRow::True, &[]);
+    let all = labelled::<3, _>(&table, FormulaRow::True, &[]);
     assert_eq!(rt; all, (Ok(0), [1, 1, 1]));
-    let second = labelled::<3, Table<'_>>(&table, &TESTS, BY_THREE, &[1, 1, 1]);
+    let second = labelled::<3, _>(&table, BY_THREE, &[1, 1, 1]);
     assert_eq!(rt; second, (Ok(2), [0, 1, 0]));
     let reached = FormulaRow::ExistsUntil {
         hold: 0,
         by: ANY,
         goal: 1,
     };
-    let third = labelled::<3, Table<'_>>(&table, &TESTS, reached, &[1, 1, 1, 0, 1, 0]);
+    let third = labelled::<3, _>(&table, reached, &[1, 1, 1, 0, 1, 0]);
     assert_eq!(rt; third, (Ok(6), [1, 1, 1]));
 }
 
@@ -116,9 +113,7 @@ fn three_states_with_three_hidden(rt: HostRuntime) {
     let mut scratch = [7; 19];
     let rounds = label(
         &hidden,
-        &TESTS,
-        &BY_THREE,
-        &[1, 1, 1],
+        asked(BY_THREE, &[1, 1, 1]),
         &mut column,
         &mut list,
         &mut scratch,
@@ -134,7 +129,7 @@ fn three_states_with_three_hidden(rt: HostRuntime) {
 
 #[test]
 fn nothing_holds_on_the_way(rt: HostRuntime) {
-    let rows = [transition(0, 1, 0)];
+    let rows = [row(0, 1, 0)];
     let table = Table {
         count: 1,
         start: 0,
@@ -146,50 +141,35 @@ fn nothing_holds_on_the_way(rt: HostRuntime) {
         last: ANY,
         goal: 0,
     };
-    let found = labelled::<1, Table<'_>>(&table, &TESTS, row, &[1, 0]);
+    let found = labelled::<1, _>(&table, row, &[1, 0]);
     assert_eq!(rt; found, (Ok(1), [0]));
     let mut column = [7];
-    let direct = label_directly(&table, &TESTS, &row, &[1, 0], &mut column, &mut [7]);
+    let direct = label_directly(&table, asked(row, &[1, 0]), &mut column, &mut [7]);
     assert_eq!(rt; direct, Some(0));
     assert_eq!(rt; column, [0]);
 }
 
 #[test]
 fn next_steps(rt: HostRuntime) {
-    let rows = [transition(0, 0, 1), transition(0, 2, 1)];
+    let rows = [row(0, 0, 1), row(0, 2, 1)];
     let table = Table {
         count: 2,
         start: 0,
         rows: &rows,
     };
-    let some = labelled::<2, Table<'_>>(
-        &table,
-        &TESTS,
-        FormulaRow::ExistsNext { by: ANY, then: 0 },
-        &[1, 1],
-    );
+    let some = labelled::<2, _>(&table, FormulaRow::ExistsNext { by: ANY, then: 0 }, &[1, 1]);
     assert_eq!(rt; some, (Ok(0), [1, 0]));
-    let all = labelled::<2, Table<'_>>(
-        &table,
-        &TESTS,
-        FormulaRow::AllNext { by: ANY, then: 0 },
-        &[1, 1],
-    );
+    let all = labelled::<2, _>(&table, FormulaRow::AllNext { by: ANY, then: 0 }, &[1, 1]);
     assert_eq!(rt; all, (Ok(0), [0, 0]));
-    let silent = labelled::<2, Table<'_>>(
-        &table,
-        &TESTS,
-        FormulaRow::ExistsSilent { then: 0 },
-        &[1, 1],
-    );
+    let silent = labelled::<2, _>(&table, FormulaRow::ExistsSilent { then: 0 }, &[1, 1]);
     assert_eq!(rt; silent, (Ok(0), [1, 0]));
-    let not = labelled::<2, Table<'_>>(&table, &TESTS, FormulaRow::Not(0), &[1, 3]);
+    let not = labelled::<2, _>(&table, FormulaRow::Not(0), &[1, 3]);
     assert_eq!(rt; not, (Ok(0), [0, 1]));
 }
 
 /// What is answered for two states with two visible transitions, and so five nodes, with room of these lengths.
 fn with_room(column: usize, list: usize, scratch: usize) -> Result<usize, Unlabelled> {
-    let rows = [transition(0, 1, 1), transition(0, 2, 1)];
+    let rows = [row(0, 1, 1), row(0, 2, 1)];
     let table = Table {
         count: 2,
         start: 0,
@@ -200,12 +180,10 @@ fn with_room(column: usize, list: usize, scratch: usize) -> Result<usize, Unlabe
     let mut bytes = [7; 16];
     label(
         &table,
-        &TESTS,
-        &FormulaRow::True,
-        &[],
-        &mut columns[0..column.min(3)],
-        &mut entries[0..list.min(3)],
-        &mut bytes[0..scratch.min(16)],
+        asked(FormulaRow::True, &[]),
+        &mut columns[..column.min(3)],
+        &mut entries[..list.min(3)],
+        &mut bytes[..scratch.min(16)],
     )
 }
 
@@ -219,7 +197,7 @@ fn room(rt: HostRuntime) {
 
 /// What is answered for one state with this many loops, and one more by a mailbox that loses what is put.
 fn with_loops(heap: Global, loops: usize) -> Result<Result<usize, Unlabelled>, AllocError> {
-    let rows = vec![in heap; transition(0, 2, 0); loops]?;
+    let rows = vec![in heap; row(0, 2, 0); loops]?;
     let table = Table {
         count: 1,
         start: 0,
@@ -238,9 +216,7 @@ fn with_loops(heap: Global, loops: usize) -> Result<Result<usize, Unlabelled>, A
     let mut scratch = vec![in heap; 7; 16000]?;
     Ok(label(
         &product,
-        &TESTS,
-        &FormulaRow::True,
-        &[],
+        asked(FormulaRow::True, &[]),
         &mut [7],
         &mut list,
         &mut scratch,

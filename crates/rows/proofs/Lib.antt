@@ -1,3 +1,3 @@
-pub mod Options
 pub mod InTurn
 pub mod Verdicts
+pub mod Calls

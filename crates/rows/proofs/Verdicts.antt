@@ -1,15 +1,15 @@
 -- What a row says of an action goes through what the rows that it names say.
 use Rattle.std.proofs.Common.{◌≡◌, ℕ, zero, suc, ◌<◌, ◌≤◌, Bool, true, false, not, ◌&&◌, List, [], length, get_or, take, set, replicate, Some, None, Option, sym, refl, ap, ◌∙◌, inl, inr, arith}
+use Rattle.std.proofs.lemmas.Bool.{cases_eq}
+use Rattle.std.proofs.lemmas.Option.{none-some, same_Some}
 use native.Mathlib.Decide.{dec_lt}
 use Rattle.std.proofs.lemmas.List.{get_or-take, get_or_past, length-take-le, get_or-set_same, get_or-set_other, set_past}
-use Rattle.std.proofs.lemmas.Bool.{cases_eq}
 use Rattle.std.proofs.lemmas.Bool.Decides.{nat_tests}
 use Rattle.rows.specs.declared.rows.ActionRow.{ActionRow}
 use Rattle.rows.specs.declared.rows.ActionRow.TheVariants.{Any, Is, Not, And}
 use Rattle.rows.specs.Rows.{action_names, beyond}
 use Rattle.rows.specs.Tests.{says, verdict, verdicts, row_says, Remembers}
 use Rattle.rows.proofs.InTurn.{in_turn_long, in_turn_at}
-use Rattle.rows.proofs.Options.{none_is_some, some_inj}
 
 -- A row asks only earlier ones.
 verdict_same : (r : ActionRow) (n a : ℕ) (f g : ℕ → Bool) → ((p : ℕ) → p < n → f p ≡ g p) → verdict r n f a ≡ verdict r n g a
@@ -49,7 +49,7 @@ unknown (suc n) (suc p) = unknown n p
 
 pub remembers_none : (rows : List ActionRow) (a n : ℕ) → Remembers rows a (replicate n None)
 unfolding Remembers
-remembers_none rows a n p b e = none_is_some b (sym (unknown n p) ∙ e)
+remembers_none rows a n p b e = absurd (none-some b (sym (unknown n p) ∙ e))
 
 pub remembered : (rows : List ActionRow) (a : ℕ) (known : List (Option Bool)) (p : ℕ) (b : Bool) → Remembers rows a known → get_or known p None ≡ Some b → b ≡ row_says rows p a
 unfolding Remembers
@@ -64,7 +64,7 @@ remembers_more rows a known p b m e i c f =
       | inl same ↦
           let here : get_or (set known p (Some b)) p None ≡ Some c = ap (λ j. get_or (set known p (Some b)) j None) (sym same) ∙ f in
           elim (dec_lt p (length known)) [
-            | yes h ↦ some_inj c b (sym here ∙ get_or-set_same known p (Some b) None h) ∙ e ∙ ap (λ j. row_says rows j a) (sym same)
+            | yes h ↦ same_Some c b (sym here ∙ get_or-set_same known p (Some b) None h) ∙ e ∙ ap (λ j. row_says rows j a) (sym same)
             | no h ↦ m i c (ap (λ j. get_or known j None) same ∙ ap (λ l. get_or l p None) (sym (set_past known p (Some b) (omega arith))) ∙ here)
           ]
       | inr other ↦ m i c (sym (get_or-set_other known p i (Some b) None other) ∙ f)

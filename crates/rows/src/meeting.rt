@@ -23,9 +23,9 @@ fn row_says(rows: &[ActionRow], row: usize, action: u8, known: &mut [Option<bool
     let answer = match rows[row] {
         ActionRow::Any => true,
         ActionRow::Is(x) => action == x,
-        ActionRow::Not(p) => !row_says(rows, p as usize, action, known),
-        ActionRow::And(p, q) => row_says(rows, p as usize, action, known)
-            && row_says(rows, q as usize, action, known),
+        ActionRow::Not(p) => !row_says(rows, usize::from(p), action, known),
+        ActionRow::And(p, q) => row_says(rows, usize::from(p), action, known)
+            && row_says(rows, usize::from(q), action, known),
     };
     remember(known, row, answer);
     answer
@@ -35,6 +35,7 @@ fn row_says(rows: &[ActionRow], row: usize, action: u8, known: &mut [Option<bool
 fn remember(known: &mut [Option<bool>], row: usize, answer: bool)
     ensures { known.new ≡ slice_set known.old row (Some answer) }
 {
+    // get_mut was tried: after it a proof knows the length of the slice, not its elements.
     if row < known.len() {
         known[row] = Some(answer);
     }
@@ -44,7 +45,7 @@ fn remember(known: &mut [Option<bool>], row: usize, answer: bool)
 fn recall(known: &[Option<bool>], row: usize) -> Option<bool>
     ensures { result ≡ slice_index_or known.now row None }
 {
-    if row < known.len() { known[row] } else { None }
+    known.get(row).copied().flatten()
 }
 
 /// Whether the action meets the row: it is visible, and the row accepts it through the earlier rows that it names.

@@ -2,14 +2,15 @@
 use crate::meeting::action_meets;
 use crate::rows::ActionRow;
 use crate::tester::Tester;
+use std::array;
 use std::test::Fail;
 
 #[test]
 fn each_row_is_tested_once(rt: HostRuntime) -> Result<(), Fail> {
-    let mut rows = [ActionRow::Is(5); 64];
-    for i in 1..64u8 {
-        rows[i as usize] = ActionRow::And(i - 1, i - 1);
-    }
+    let rows: [ActionRow; 64] = array::from_fn(|row| match row {
+        0 => ActionRow::Is(5),
+        _ => ActionRow::And(row as u8 - 1, row as u8 - 1),
+    });
     assert!(rt; action_meets(&rows, 63, 5));
     assert!(rt; !action_meets(&rows, 63, 6));
     let last = Tester::new(&rows, 63);

@@ -1,46 +1,31 @@
--- The column of the first unfinished row, written among the columns.
-use Rattle.std.proofs.Common.{◌≡◌, ℕ, ◌+◌, ◌-◌, ◌*◌, ◌<◌, ◌≤◌, List, length, get_or, take, drop, sym, ap, ◌∙◌, subst, add-mul, one-mul}
-use native.Mathlib.Nat.{sub-zero}
-use Rattle.std.proofs.lemmas.List.{get_or_read}
+-- The column of the first unfinished row, between the columns before it and what stands after it.
+use Rattle.std.proofs.Common.{◌≡◌, ℕ, ◌+◌, ◌*◌, ◌≤◌, List, ◌++◌, length, Some, slice_get, take, drop, ap, ◌∙◌, add-mul, one-mul, arith}
+use Rattle.std.proofs.lemmas.List.{take_at, drop_at, drop-drop, length-take-le}
+use Rattle.std.proofs.lemmas.Option.{get_or_from_slice_get}
 use Rattle.systems.specs.Machine.{Machine}
-use Rattle.rows.specs.declared.rows.ActionRow.{ActionRow}
 use Rattle.rows.specs.declared.rows.FormulaRow.{FormulaRow}
 use Rattle.rows.specs.declared.rows.FormulaRow.TheVariants.{True}
 use Rattle.direct.specs.Labelled.{Labels}
 use Rattle.sheet.specs.Book.{Book}
 use Rattle.sheet.specs.Labelling.{Fills}
-use Rattle.sheet.specs.Single.{column_of}
-use Rattle.sheet.specs.Written.{written}
-use Rattle.sheet.proofs.Written.{low, own, back}
 
-module _ (m : Machine) (b : Book) (cs column : List ℕ) (k : ℕ) where
+-- The columns are `earlier` and `rest`; the column is written at the front of the rest.
+module _ (m : Machine) (b : Book) (cs earlier column rest : List ℕ) (k : ℕ) where
   abbrev r : ℕ
   r = length b.finished
 
   pub filled :
-      length column ≡ b.n → (r + 1) * b.n ≤ length cs → Labels m b.actions (get_or b.rows r True) (take (r * b.n) cs) column k
-      → Fills m b cs (written cs (r * b.n) column) k
-  filled l h labels =
-      let e : (r + 1) * b.n ≡ r * b.n + length column = add-mul r 1 b.n ∙ ap (λ x. r * b.n + x) (one-mul b.n ∙ sym l) in
-      let same : column_of b (written cs (r * b.n) column) r ≡ column =
-      ap (λ x. take x (drop (r * b.n) (written cs (r * b.n) column))) (sym l) ∙ own cs (r * b.n) ((r + 1) * b.n) column e h in
+      (row : FormulaRow) (i : ℕ) → slice_get b.rows r ≡ Some row → i ≡ r → earlier ≡ take (i * b.n) cs → rest ≡ drop (i * b.n) cs → length column ≡ b.n → (r + 1) * b.n ≤ length cs
+      → Labels m b.actions row earlier column k → Fills m b cs (earlier ++ (column ++ drop b.n rest)) k
+  filled row i first number front back l room labels =
+      let f : earlier ≡ take (r * b.n) cs = front ∙ ap (λ j. take (j * b.n) cs) number in
+      let e : rest ≡ drop (r * b.n) cs = back ∙ ap (λ j. drop (j * b.n) cs) number in
+      let next : r * b.n + b.n ≡ (r + 1) * b.n = omega (arith, add-mul r 1 b.n, one-mul b.n) in
+      let h : length earlier ≡ r * b.n = ap length f ∙ length-take-le (r * b.n) cs (omega arith) in
+      let past : drop (r * b.n) (earlier ++ (column ++ drop b.n rest)) ≡ column ++ drop b.n rest = drop_at earlier _ (r * b.n) h in
+      let same : take b.n (drop (r * b.n) (earlier ++ (column ++ drop b.n rest))) ≡ column = ap (take b.n) past ∙ take_at column _ b.n l in
       record {
-        labels = subst (λ c. Labels m b.actions (get_or b.rows r True) (take (r * b.n) cs) c k) (sym same) labels;
-        before = low cs (r * b.n) ((r + 1) * b.n) column e h;
-        after = back cs (r * b.n) ((r + 1) * b.n) column e h;
+        labels = rw (same, ← f, get_or_from_slice_get b.rows r row True first) labels;
+        before = take_at earlier _ (r * b.n) h ∙ f;
+        after = rw (← next, ← drop-drop b.n (r * b.n) (earlier ++ (column ++ drop b.n rest)), ← drop-drop b.n (r * b.n) cs, past, ← e) (drop_at column _ b.n l);
       }
-
-  -- The same with the values as the code has them: i is the row's number.
-  pub filled_from :
-      (acts : List ActionRow) (row : FormulaRow) (i : ℕ) (ds : List ℕ)
-      → acts ≡ b.actions → row ≡ get_or b.rows i row → i ≡ r → r < length b.rows
-      → Labels m acts row (take (i * b.n - 0) cs) column k → ds ≡ written cs (i * b.n) column → length column ≡ b.n → (r + 1) * b.n ≤ length cs
-      → Fills m b cs ds k
-  filled_from acts row i ds same is number some labels writes l h =
-      let place : i * b.n ≡ r * b.n = ap (λ j. j * b.n) number in
-      let named : row ≡ get_or b.rows r True =
-      get_or_read b.rows r row some (subst (λ j. row ≡ get_or b.rows j row) number is) True in
-      let one = subst (λ a. Labels m a row (take (i * b.n - 0) cs) column k) same labels in
-      let two = subst (λ w. Labels m b.actions w (take (i * b.n - 0) cs) column k) named one in
-      let three = subst (λ p. Labels m b.actions (get_or b.rows r True) (take p cs) column k) (sub-zero (i * b.n) ∙ place) two in
-      subst (λ d. Fills m b cs d k) (sym (writes ∙ ap (λ p. written cs p column) place)) (filled l h three)

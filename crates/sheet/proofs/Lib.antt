@@ -1,4 +1,2 @@
-mod Clear
+mod Fields
 mod Filled
-mod Shown
-mod Written

@@ -4,4 +4,3 @@ pub mod Refusals
 pub mod Single
 pub mod Report
 pub mod Labelling
-pub mod Written

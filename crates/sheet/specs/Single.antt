@@ -1,5 +1,5 @@
 -- What a single call does.
-use Rattle.std.specs.Prelude.{◌≡◌, ℕ, ◌+◌, ◌*◌, ◌<◌, Bool, List, [], length, take, drop, Some, vec_len, Option}
+use Rattle.std.specs.Prelude.{◌≡◌, ℕ, ◌*◌, Bool, List, [], length, take, drop, Some, Option}
 use Rattle.std.specs.List.{slice_get}
 use Rattle.rows.specs.declared.rows.ActionRow.{ActionRow}
 use Rattle.rows.specs.declared.rows.FormulaRow.{FormulaRow}
@@ -26,10 +26,6 @@ column_of b cs r = take b.n (drop (r * b.n) cs)
 -- Whether row r says yes at state s, in the columns of a sheet with this book.
 abbrev pub marked : Book → List ℕ → ℕ → ℕ → Bool
 marked b cs r s = yes cs b.n r s
-
--- The row is finished, and the columns reach to its byte of the state.
-abbrev pub Readable : Sheet → (columns row state : ℕ) → Type 0
-Readable x columns row state = (row < vec_len x.finished) × (state < x.n) × (row * x.n + state < columns)
 
 -- The answer of a read: the verdict on a row at a state, and the row's rounds.
 abbrev pub Verdict : Sheet → List ℕ → (row state : ℕ) → (Bool × ℕ) → Type 0

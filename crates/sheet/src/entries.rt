@@ -9,6 +9,7 @@ ghost use Rattle.sheet.specs.Refusals.{refusal_begin, refusal_note, refusal_ente
 use crate::limits::{MOST_ROWS, MOST_STATES};
 use crate::state::Sheet;
 use faults::sheet::SheetFault;
+use rows::fields::{ActionFields, FormulaFields};
 use std::alloc::{AllocError, Global};
 
 impl Sheet {
@@ -31,7 +32,7 @@ impl Sheet {
     pub fn begin(&mut self, n: usize) -> Result<(), SheetFault>
         ensures { Outcome result (refusal_begin n) (self.new ≡ self.old) (λ _. Begun self.new n) }
     {
-        if n < 1 || n > MOST_STATES {
+        if !(1..=MOST_STATES).contains(&n) {
             return Err(SheetFault::States);
         }
         self.finished.clear();
@@ -41,21 +42,23 @@ impl Sheet {
         Ok(())
     }
 
+    // `note` and `enter` are alike but for their lists and what is checked. A function for the three lines that they share would need
+    // as many clauses.
     /// Adds an action row, and answers its number.
-    pub fn note(&mut self, kind: u8, x: u8, y: u8) -> Result<u8, SheetFault>
-        ensures { Outcome result (refusal_note (shown self.old) kind x y) (self.new ≡ self.old) (Noted self.old self.new (action_row kind x y)) }
+    pub fn note(&mut self, fields: ActionFields) -> Result<u8, SheetFault>
+        ensures { Outcome result (refusal_note (shown self.old) fields.kind fields.x fields.y) (self.new ≡ self.old) (Noted self.old self.new (action_row fields.kind fields.x fields.y)) }
     {
-        let row = self.admit_action(kind, x, y)?;
+        let row = self.admit_action(fields)?;
         let number = self.actions.len() as u8;
         self.actions.push_reserved(row);
         Ok(number)
     }
 
     /// Adds a formula row, and answers its number.
-    pub fn enter(&mut self, kind: u8, r1: u8, by: u8, last: u8, r2: u8) -> Result<u8, SheetFault>
-        ensures { Outcome result (refusal_enter (shown self.old) kind r1 by last r2) (self.new ≡ self.old) (Entered self.old self.new (formula_row kind r1 by last r2)) }
+    pub fn enter(&mut self, fields: FormulaFields) -> Result<u8, SheetFault>
+        ensures { Outcome result (refusal_enter (shown self.old) fields.kind fields.r1 fields.by fields.last fields.r2) (self.new ≡ self.old) (Entered self.old self.new (formula_row fields.kind fields.r1 fields.by fields.last fields.r2)) }
     {
-        let row = self.admit_formula(kind, r1, by, last, r2)?;
+        let row = self.admit_formula(fields)?;
         let number = self.rows.len() as u8;
         self.rows.push_reserved(row);
         Ok(number)

@@ -9,4 +9,3 @@ mod reads;
 mod report;
 pub mod state;
 mod wiped;
-mod write;

@@ -1,14 +1,14 @@
 //! The report of a sheet.
 ghost use Rattle.std.specs.Prelude.{◌≡◌, ◌+◌, ◌*◌, ◌<◌, ◌≤◌, length, if◌then◌else◌, vec_len};
 ghost use Rattle.faults.specs.Refusal.{Outcome};
-ghost use Rattle.sheet.specs.Book.{shown, rounds_of};
+ghost use Rattle.columns.specs.Marks.{marks};
+ghost use Rattle.rows.specs.RouteNumber.{route_number};
+ghost use Rattle.sheet.specs.Book.{shown};
 ghost use Rattle.sheet.specs.Limits.{most_states};
-ghost use Rattle.sheet.specs.Refusals.{refusal_report};
-ghost use Rattle.sheet.specs.Single.{marked};
-ghost use Rattle.sheet.specs.Report.{yes_count, head_field, field_of, Reported};
+ghost use Rattle.sheet.specs.Refusals.{report_length, refusal_report};
+ghost use Rattle.sheet.specs.Report.{yes_count, head_field, row_field, Reported};
 
-use crate::state::Sheet;
-use crate::write::write_at;
+use crate::state::{Finish, Sheet};
 use faults::sheet::SheetFault;
 
 /// How many states a column says yes at.
@@ -16,13 +16,38 @@ fn count_yes(column: &[u8]) -> u16
     requires { length column.now ≤ most_states }
     ensures { result ≡ yes_count column.now }
 {
+    // A loop over the column's bytes and no chain: a rule of the project (docs/DECISIONS.md).
     let mut yes = 0;
     for byte in column {
-        if *byte == 1 {
-            yes += 1;
-        }
+        yes += u16::from(*byte == 1);
     }
     yes
+}
+
+impl Finish {
+    /// The field of the finished row with this number and this column.
+    fn field(&self, row: u8, column: &[u8], start: usize) -> [u8; 10]
+        requires start { start < length column.now }
+        requires few { length column.now ≤ most_states }
+        ensures { result ≡ row_field row (route_number self.now.route) self.now.rounds (if marks column.now start then 1 else 0) (yes_count column.now) }
+    {
+        let route = u8::from(self.route);
+        let [rounds_high, rounds_low] = self.rounds.to_be_bytes();
+        let verdict = u8::from(column[start] == 1);
+        let [yes_high, yes_low] = count_yes(column).to_be_bytes();
+        [
+            0x82,
+            0,
+            7,
+            row,
+            route,
+            rounds_high,
+            rounds_low,
+            verdict,
+            yes_high,
+            yes_low,
+        ]
+    }
 }
 
 impl Sheet {
@@ -34,48 +59,9 @@ impl Sheet {
         [0x81, 0, 3, high, low, self.finished.len() as u8]
     }
 
-    /// The verdict on a finished row at a state, as a byte.
-    fn verdict_at(&self, columns: &[u8], row: usize, state: usize) -> u8
-        requires finished { row < vec_len self.now.finished }
-        requires columns { row * self.now.n + state < length columns.now }
-        ensures { result ≡ (if marked (shown self.now) columns.now row state then 1 else 0) }
-    {
-        if columns[row * self.n + state] == 1 {
-            1
-        } else {
-            0
-        }
-    }
-
-    /// The field of a finished row.
-    fn row_field(&self, columns: &[u8], start: usize, row: usize) -> [u8; 10]
-        requires finished { row < vec_len self.now.finished }
-        requires start { start < self.now.n }
-        requires columns { (row + 1) * self.now.n ≤ length columns.now }
-        ensures { result ≡ field_of (shown self.now) (rounds_of self.now) columns.now start row }
-    {
-        let base = row * self.n;
-        let finish = self.finished[row];
-        let [rounds_high, rounds_low] = finish.rounds.to_be_bytes();
-        let verdict = self.verdict_at(columns, row, start);
-        let [yes_high, yes_low] = count_yes(&columns[base..base + self.n]).to_be_bytes();
-        [
-            0x82,
-            0,
-            7,
-            row as u8,
-            finish.route.number(),
-            rounds_high,
-            rounds_low,
-            verdict,
-            yes_high,
-            yes_low,
-        ]
-    }
-
     /// The length of the report, or its first fault.
     fn admit_report(&self, columns: usize, start: usize, output: usize) -> Result<usize, SheetFault>
-        ensures { Outcome result (refusal_report (shown self.now) columns start output) (Unit {0}) (λ k. k ≡ 6 + 10 * vec_len self.now.finished) }
+        ensures { Outcome result (refusal_report (shown self.now) columns start output) (Unit {0}) (λ k. k ≡ report_length (shown self.now)) }
     {
         let rows = self.finished.len();
         if start >= self.n {
@@ -101,9 +87,13 @@ impl Sheet {
         ensures { Outcome result (refusal_report (shown self.now) (length columns.now) start (length output.old)) (output.new ≡ output.old) (Reported self.now columns.now start output.old output.new) }
     {
         let length = self.admit_report(columns.len(), start, output.len())?;
-        write_at(output, 0, &self.head_field());
-        for row in 0..self.finished.len() {
-            write_at(output, 6 + 10 * row, &self.row_field(columns, start, row));
+        output[..6].copy_from_slice(&self.head_field());
+        for (row, finish) in self.finished.iter().enumerate() {
+            // Column and output are cut by the row's number, which the field holds too: with chunks_exact and chunks_exact_mut the loop would
+            // be over three iterators in step and their count, which is no plainer.
+            let column = &columns[row * self.n..(row + 1) * self.n];
+            let field = finish.field(row as u8, column, start);
+            output[6 + 10 * row..16 + 10 * row].copy_from_slice(&field);
         }
         Ok(length)
     }

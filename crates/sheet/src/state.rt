@@ -6,7 +6,7 @@ use rows::route::Route;
 use rows::rows::{ActionRow, FormulaRow};
 
 /// The route and the rounds of a finished row.
-#[derive(Clone, Copy)]
+#[derive(Clone, Copy, PartialEq, Eq, Debug)]
 pub struct Finish {
     pub route: Route,
     pub rounds: u16,
@@ -18,6 +18,8 @@ pub struct Finish {
 pub struct Sheet {
     pub(crate) n: usize,
     pub(crate) actions: Vec<ActionRow>,
+    // Two lists, not one of rows with an Option<Finish> each: that one would need the fact that the finished rows stand first,
+    // and a search for the first unfinished one.
     pub(crate) rows: Vec<FormulaRow>,
     pub(crate) finished: Vec<Finish>,
     ghost states: { (1 ≤ n) × (n ≤ most_states) },

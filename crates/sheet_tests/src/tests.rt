@@ -1,8 +1,19 @@
 //! Each fault of the sheet's calls with a call that gets it and one that just does not.
 use faults::sheet::SheetFault;
+use rows::fields::{ActionFields, FormulaFields};
 use sheet::state::Sheet;
 use std::test::Fail;
 use systems::mailbox::Mailbox;
+
+/// Notes the action row of these bytes.
+fn note(sheet: &mut Sheet, bytes: [u8; 3]) -> Result<u8, SheetFault> {
+    sheet.note(ActionFields::from(bytes))
+}
+
+/// Enters the formula row of these bytes.
+fn enter(sheet: &mut Sheet, bytes: [u8; 5]) -> Result<u8, SheetFault> {
+    sheet.enter(FormulaFields::from(bytes))
+}
 
 #[test]
 fn states_in_range(rt: HostRuntime) -> Result<(), Fail> {
@@ -17,34 +28,52 @@ fn states_in_range(rt: HostRuntime) -> Result<(), Fail> {
 #[test]
 fn action_rows(rt: HostRuntime) -> Result<(), Fail> {
     let mut sheet = Sheet::new(rt.alloc())?;
-    assert_eq!(rt; sheet.note(4, 0, 0), Err(SheetFault::Kind(0)));
-    assert_eq!(rt; sheet.note(1, 0, 0), Err(SheetFault::Kind(0)));
-    assert_eq!(rt; sheet.note(2, 0, 0), Err(SheetFault::NotEarlier(0)));
-    assert_eq!(rt; sheet.note(1, 1, 200), Ok(0));
-    assert_eq!(rt; sheet.note(3, 0, 1), Err(SheetFault::NotEarlier(1)));
-    assert_eq!(rt; sheet.note(3, 0, 0), Ok(1));
+    assert_eq!(rt; note(&mut sheet, [4, 0, 0]), Err(SheetFault::Kind(0)));
+    assert_eq!(rt; note(&mut sheet, [1, 0, 0]), Err(SheetFault::Kind(0)));
+    assert_eq!(rt; note(&mut sheet, [2, 0, 0]), Err(SheetFault::NotEarlier(0)));
+    assert_eq!(rt; note(&mut sheet, [1, 1, 200]), Ok(0));
+    assert_eq!(rt; note(&mut sheet, [3, 0, 1]), Err(SheetFault::NotEarlier(1)));
+    assert_eq!(rt; note(&mut sheet, [3, 0, 0]), Ok(1));
     for _ in 2..64 {
-        let _ = sheet.note(0, 99, 99)?;
+        let _ = note(&mut sheet, [0, 99, 99])?;
     }
-    assert_eq!(rt; sheet.note(4, 0, 0), Err(SheetFault::Full(64)));
+    assert_eq!(rt; note(&mut sheet, [4, 0, 0]), Err(SheetFault::Full(64)));
     Ok(())
 }
 
 #[test]
 fn formula_rows(rt: HostRuntime) -> Result<(), Fail> {
     let mut sheet = Sheet::new(rt.alloc())?;
-    assert_eq!(rt; sheet.enter(11, 0, 0, 0, 0), Err(SheetFault::Kind(0)));
-    assert_eq!(rt; sheet.enter(1, 0, 0, 0, 0), Err(SheetFault::NotEarlier(0)));
-    assert_eq!(rt; sheet.enter(0, 9, 9, 9, 9), Ok(0));
-    assert_eq!(rt; sheet.enter(8, 0, 0, 1, 0), Err(SheetFault::NotNoted(1)));
-    let _ = sheet.note(0, 0, 0)?;
-    assert_eq!(rt; sheet.enter(8, 0, 0, 1, 0), Err(SheetFault::NotNoted(1)));
-    assert_eq!(rt; sheet.enter(8, 0, 0, 0, 1), Err(SheetFault::NotEarlier(1)));
-    assert_eq!(rt; sheet.enter(10, 0, 0, 0, 0), Ok(1));
+    assert_eq!(rt;
+        enter(&mut sheet, [11, 0, 0, 0, 0]),
+        Err(SheetFault::Kind(0))
+    );
+    assert_eq!(rt;
+        enter(&mut sheet, [1, 0, 0, 0, 0]),
+        Err(SheetFault::NotEarlier(0))
+    );
+    assert_eq!(rt; enter(&mut sheet, [0, 9, 9, 9, 9]), Ok(0));
+    assert_eq!(rt;
+        enter(&mut sheet, [8, 0, 0, 1, 0]),
+        Err(SheetFault::NotNoted(1))
+    );
+    let _ = note(&mut sheet, [0, 0, 0])?;
+    assert_eq!(rt;
+        enter(&mut sheet, [8, 0, 0, 1, 0]),
+        Err(SheetFault::NotNoted(1))
+    );
+    assert_eq!(rt;
+        enter(&mut sheet, [8, 0, 0, 0, 1]),
+        Err(SheetFault::NotEarlier(1))
+    );
+    assert_eq!(rt; enter(&mut sheet, [10, 0, 0, 0, 0]), Ok(1));
     for _ in 2..64 {
-        let _ = sheet.enter(0, 0, 0, 0, 0)?;
+        let _ = enter(&mut sheet, [0, 0, 0, 0, 0])?;
     }
-    assert_eq!(rt; sheet.enter(11, 0, 0, 0, 0), Err(SheetFault::Full(64)));
+    assert_eq!(rt;
+        enter(&mut sheet, [11, 0, 0, 0, 0]),
+        Err(SheetFault::Full(64))
+    );
     Ok(())
 }
 
@@ -63,7 +92,7 @@ fn no_row_to_label(rt: HostRuntime) -> Result<(), Fail> {
     let none = sheet.direct(&TWO_STATES, &mut columns, &mut scratch);
     assert_eq!(rt; none, Err(SheetFault::Finished(0)));
     assert_eq!(rt; scratch, [0, 0]);
-    let _ = sheet.enter(0, 0, 0, 0, 0)?;
+    let _ = enter(&mut sheet, [0, 0, 0, 0, 0])?;
     let other = sheet.direct(&TWO_STATES, &mut columns, &mut scratch);
     assert_eq!(rt; other, Err(SheetFault::StateCount(0)));
     Ok(())
@@ -75,8 +104,8 @@ fn labelling(rt: HostRuntime) -> Result<(), Fail> {
     let mut columns = [7; 4];
     let mut scratch = [7; 2];
     sheet.begin(2)?;
-    let _ = sheet.enter(0, 0, 0, 0, 0)?;
-    let _ = sheet.enter(1, 0, 0, 0, 0)?;
+    let _ = enter(&mut sheet, [0, 0, 0, 0, 0])?;
+    let _ = enter(&mut sheet, [1, 0, 0, 0, 0])?;
     let short = sheet.direct(&TWO_STATES, &mut columns[0..1], &mut scratch);
     assert_eq!(rt; short, Err(SheetFault::Columns(0)));
     let short = sheet.direct(&TWO_STATES, &mut columns, &mut scratch[0..1]);
@@ -103,8 +132,8 @@ fn labelling(rt: HostRuntime) -> Result<(), Fail> {
 fn finished(sheet: &mut Sheet, columns: &mut [u8]) -> Result<(), SheetFault> {
     let mut scratch = [0; 2];
     sheet.begin(2)?;
-    let _ = sheet.enter(0, 0, 0, 0, 0)?;
-    let _ = sheet.enter(0, 0, 0, 0, 0)?;
+    let _ = enter(sheet, [0, 0, 0, 0, 0])?;
+    let _ = enter(sheet, [0, 0, 0, 0, 0])?;
     let _ = sheet.direct(&TWO_STATES, columns, &mut scratch)?;
     Ok(())
 }

@@ -7,8 +7,8 @@ mod machine;
 mod rows_in_words;
 
 use answer::answer::answer;
-use answer::stop::Unanswered;
 use anyhow::anyhow;
+use faults::fault::Fault;
 use faults_in_words::FaultWords;
 use findings::print_findings;
 use job::{Job, read_job};
@@ -29,13 +29,9 @@ fn show(rt: &HostRuntime) -> anyhow::Result<()> {
     rt.stdin().read_to_end(&mut bytes)?;
     let length = bytes.len();
     println!(rt; "A job of {length} bytes.")?;
-    let answered = match answer(rt.alloc(), &bytes) {
-        Ok(answered) => answered,
-        Err(Unanswered::Translated) => return Err(anyhow!("the translated route is not there yet")),
-        Err(Unanswered::Memory) => return Err(anyhow!("not enough memory")),
-    };
-    if let Some(fault) = FaultWords::of_record(&answered) {
-        println!(rt; "Refused: {fault}.")?;
+    let answered = answer(rt.alloc(), &bytes)?;
+    if let Ok(fault) = Fault::try_from(answered.as_slice()) {
+        println!(rt; "Refused: {}.", FaultWords(fault))?;
         return Ok(());
     }
     match read_job(&bytes) {

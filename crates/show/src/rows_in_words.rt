@@ -1,4 +1,5 @@
 //! Rows in words.
+use rows::fields::ActionFields;
 use rows::rows::{ActionRow, FormulaRow};
 use std::fmt;
 
@@ -64,11 +65,10 @@ impl fmt::Display for FormulaWords {
 /// Prints the action rows, three bytes to each.
 pub fn print_action_rows(rt: &HostRuntime, body: &[u8]) -> anyhow::Result<()> {
     println!(rt; "Tests of visible actions:")?;
-    for k in 0..body.len() / 3 {
-        let at = 3 * k;
-        if let Some(row) = ActionRow::of_kind(body[at], body[at + 1], body[at + 2]) {
-            let words = ActionWords(row);
-            println!(rt; "  a{k}: {words}")?;
+    let (rows, _) = body.as_chunks::<3>();
+    for (k, bytes) in rows.iter().enumerate() {
+        if let Ok(row) = ActionRow::try_from(ActionFields::from(*bytes)) {
+            println!(rt; "  a{k}: {}", ActionWords(row))?;
         }
     }
     Ok(())

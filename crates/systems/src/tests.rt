@@ -40,12 +40,9 @@ fn sets(rt: HostRuntime) -> Result<(), Fail> {
     let mut bytes = [0; 33];
     bytes[0] = 255;
     bytes[31] = 128;
-    assert!(rt; ActionSet::from_bytes(&bytes).is_none());
-    assert!(rt; ActionSet::from_bytes(&bytes[..31]).is_none());
-    let Some(set) = ActionSet::from_bytes(&bytes[..32]) else {
-        assert!(rt; false);
-        return Ok(());
-    };
+    assert!(rt; ActionSet::try_from(&bytes[..]).is_err());
+    assert!(rt; ActionSet::try_from(&bytes[..31]).is_err());
+    let set = ActionSet::try_from(&bytes[..32])?;
     assert!(rt; !set.contains(0));
     assert!(rt; set.contains(1));
     assert!(rt; !set.contains(8));

@@ -1,8 +1,6 @@
-pub mod Nodes
 pub mod Spans
 pub mod Leaving
 pub mod Sound
-pub mod Due
 pub mod Laying
 pub mod Performing
 pub mod Labelling

@@ -3,8 +3,6 @@ pub mod Node
 pub mod Translated
 pub mod TranslationSound
 pub mod Meaning
-pub mod Parts
-pub mod Rules
 pub mod Laid
 pub mod Answered
 pub mod Labelled

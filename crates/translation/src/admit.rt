@@ -4,7 +4,6 @@ ghost use Rattle.translation.specs.Labelled.{refusal, Admits};
 
 use crate::unlabelled::Unlabelled;
 use gather::census::Census;
-use gather::gather::MAX_TRANSITIONS;
 use kripke::limits::MAX_NODES;
 use systems::system::System;
 
@@ -22,8 +21,7 @@ pub(crate) fn admit<S: System>(
         return Err(Unlabelled::Column);
     }
     let census = Census::of(system);
-    let transitions = census.transitions();
-    if transitions > MAX_TRANSITIONS || transitions > list {
+    if !census.fits(list) {
         return Err(Unlabelled::Transitions);
     }
     let nodes = count + census.visible + usize::from(census.dead);

@@ -2,13 +2,9 @@
 #![tactic(auto)]
 
 mod admit;
-mod argument;
 pub mod label;
-mod lay;
 pub mod node;
-mod part;
 mod perform;
-mod rule;
 mod span;
 pub mod translation;
 pub mod unlabelled;

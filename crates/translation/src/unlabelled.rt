@@ -1,4 +1,6 @@
 //! Why a row is not labelled.
+use std::error::Error;
+use std::fmt;
 
 /// Why a row is not labelled through the translation.
 #[derive(Clone, Copy, PartialEq, Eq, Debug)]
@@ -12,3 +14,16 @@ pub enum Unlabelled {
     /// The scratch has no room for three columns of nodes.
     Scratch,
 }
+
+impl fmt::Display for Unlabelled {
+    fn fmt<W: fmt::Write>(&self, f: &mut fmt::Formatter<W>) -> fmt::Result {
+        match self {
+            Unlabelled::Column => write!(f, "the column's length is not the number of states"),
+            Unlabelled::Transitions => write!(f, "too many transitions"),
+            Unlabelled::Nodes => write!(f, "the structure would have too many nodes"),
+            Unlabelled::Scratch => write!(f, "the scratch has no room for three columns of nodes"),
+        }
+    }
+}
+
+impl Error for Unlabelled {}

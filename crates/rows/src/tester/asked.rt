@@ -1,21 +1,18 @@
 //! Testers: made once for a row, then asked of actions.
 ghost use Rattle.std.specs.Prelude.{◌≡◌};
-ghost use Rattle.rows.specs.Tester.{accepted};
+ghost use Rattle.rows.specs.Tester.{accepted, TesterOf};
 
 use super::Tester;
 use crate::meeting::action_meets;
 use crate::rows::ActionRow;
+use std::array;
 
 impl<'a> Tester<'a> {
     /// The tester of the row: each action is tested once.
     pub fn new(rows: &'a [ActionRow], row: usize) -> Tester<'a>
-        ensures rows { result.rows.now ≡ rows.now }
-        ensures row { result.row ≡ row }
+        ensures { TesterOf rows.now row result }
     {
-        let mut answers = [false; 256];
-        for action in 0..=255u8 {
-            answers[action as usize] = action_meets(rows, row, action);
-        }
+        let answers = array::from_fn(|action| action_meets(rows, row, action as u8));
         Tester { rows, row, answers }
     }
 
@@ -23,6 +20,6 @@ impl<'a> Tester<'a> {
     pub fn accepts(&self, action: u8) -> bool
         ensures { result ≡ accepted self.now action }
     {
-        self.answers[action as usize]
+        self.answers[usize::from(action)]
     }
 }
