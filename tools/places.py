@@ -38,6 +38,22 @@ def parameters(head):
     return [p.split(":")[0].strip().replace("mut ", "") for p in re.split(r",\s", m.group(1)) if ":" in p] if m else []
 
 
+# What is sought in a line, by point, and in which lines it is passed over.
+LINES = [
+    ("1 enums", r"\benum [A-Z]", None),
+    ("1 numbers for kinds", r"\b(kind|tag|route|layer|last|number|code|reason): u(8|16|32)\b", r"fn "),
+    ("1 flags beside values", r"\(bool, |, bool\)|\bbool,$", None),
+    ("3 while", r"^\s*(while|loop)\b", None),
+    ("3 counted by hand", r"\+= 1;", None),
+    ("4 conversions in place", r"\* 256|\{ 1 \} else \{ 0 \}|as u(8|16|32)\b|as usize\b", None),
+    ("4 conversion functions", r"fn (of_kind|of_record|from_[a-z]+|to_[a-z]+|named|number)\(", None),
+    (
+        "6 arithmetic in an index, buffers with a length",
+        r"\[[^\]\[]*\*[^\]\[]*\+[^\]\[]*\]|\[0; [A-Z_]{3,}\]|\b(low|high|used)\b.*=",
+        r"^\s*(ensures|requires|ghost)",
+    ),
+    ("7 steps chosen by a value", r": (Rule|Part|Sight|Argument|Quantifier|Connective|Route)\b", None),
+]
 all_functions, clauses, groups = [], {}, {}
 for file in files:
     text = open(file).read()
@@ -45,28 +61,13 @@ for file in files:
     lines = text.split("\n")
     for n, line in enumerate(lines, 1):
         code = line.split("//")[0]
-        if re.search(r"\benum [A-Z]", code):
-            put("1 enums", file, n, code.strip())
-        if re.search(r"\b(kind|tag|route|layer|last|number|code|reason): u(8|16|32)\b", code) and "fn " not in code:
-            put("1 numbers for kinds", file, n, code.strip())
-        if re.search(r"\(bool, |, bool\)|\bbool,$", code):
-            put("1 flags beside values", file, n, code.strip())
-        if re.search(r"^\s*(while|loop)\b", code):
-            put("3 while", file, n, code.strip())
-        if re.search(r"\+= 1;", code):
-            put("3 counted by hand", file, n, code.strip())
-        if re.search(r"\* 256|\{ 1 \} else \{ 0 \}|as u(8|16|32)\b|as usize\b", code):
-            put("4 conversions in place", file, n, code.strip())
-        if re.search(r"fn (of_kind|of_record|from_[a-z]+|to_[a-z]+|named|number)\(", code):
-            put("4 conversion functions", file, n, code.strip())
+        for point, sought, passed in LINES:
+            if re.search(sought, code) and not (passed and re.search(passed, code)):
+                put(point, file, n, code.strip())
         if re.search(r"\bpub struct |\bpub enum ", code):
             above = " ".join(l for l in lines[max(0, n - 4):n - 1] if "derive" in l)
             if "PartialEq" not in above and "&'" not in text[text.find(line):text.find(line) + 200]:
                 put("4 types without derived comparison", file, n, code.strip())
-        if re.search(r"\[[^\]\[]*\*[^\]\[]*\+[^\]\[]*\]|\[0; [A-Z_]{3,}\]|\b(low|high|used)\b.*=", code) and not code.strip().startswith(("ensures", "requires", "ghost")):
-            put("6 arithmetic in an index, buffers with a length", file, n, code.strip())
-        if re.search(r": (Rule|Part|Sight|Argument|Quantifier|Connective|Route)\b", code):
-            put("7 steps chosen by a value", file, n, code.strip())
     for name, n, head, body in functions(text):
         all_functions.append((file, name, n, shape(body), tests))
         for m in re.finditer(r"^\s*for ([a-z_]+) in ([^{]+)\.\.", body, re.M):
