@@ -8,25 +8,29 @@ use crate::stop::{Stop, Unanswered};
 use compose::hiding::Hiding;
 use compose::kept::Kept;
 use compose::product::Product;
-use job::{Job, read_job};
+use job::{SoundJob, read_job};
 use std::alloc::Global;
 use systems::actions::ActionSet;
 use systems::system::System;
 use systems::table::Table;
 
 /// Runs the job on the system, with the job's actions hidden if it has some to hide.
-fn run_hidden<S: System + Drop>(heap: Global, job: &Job<'_>, system: S) -> Result<Vec<u8>, Stop> {
-    let Some(set) = job.hiding else {
-        return run(heap, job, &system);
+fn run_hidden<S: System + Drop>(
+    heap: Global,
+    sound: &SoundJob<'_>,
+    system: S,
+) -> Result<Vec<u8>, Stop> {
+    let Some(set) = sound.job.hiding else {
+        return run(heap, sound, &system);
     };
     let actions = ActionSet::try_from(set).unwrap();
-    run(heap, job, &Hiding { system, actions })
+    run(heap, sound, &Hiding { system, actions })
 }
 
 /// Runs the job on its table, joined with its mailbox if it has one.
-fn run_joined(heap: Global, job: &Job<'_>, table: Table<'_>) -> Result<Vec<u8>, Stop> {
-    let Some(body) = job.mailbox else {
-        return run_hidden(heap, job, table);
+fn run_joined(heap: Global, sound: &SoundJob<'_>, table: Table<'_>) -> Result<Vec<u8>, Stop> {
+    let Some(body) = sound.job.mailbox else {
+        return run_hidden(heap, sound, table);
     };
     let (right, shared) = mailbox_of(body).unwrap();
     let product = Product {
@@ -35,7 +39,7 @@ fn run_joined(heap: Global, job: &Job<'_>, table: Table<'_>) -> Result<Vec<u8>, 
         shared,
     };
     product.check()?;
-    run_hidden(heap, job, Kept::new(product))
+    run_hidden(heap, sound, Kept::new(product))
 }
 
 /// The report of a job, or why there is none.
@@ -50,7 +54,7 @@ fn report_of(heap: Global, bytes: &[u8]) -> Result<Vec<u8>, Stop>
         rows: &rows,
     };
     table.check()?;
-    run_joined(heap, &job, table)
+    run_joined(heap, &SoundJob { job }, table)
 }
 
 /// The answer to a job: its report, or the record of its first fault.

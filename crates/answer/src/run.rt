@@ -1,7 +1,7 @@
 //! The calls that a job stands for, on a system.
 use crate::stop::{Stop, Unanswered};
 use faults::sheet::SheetFault;
-use job::Job;
+use job::SoundJob;
 use rows::fields::{ActionFields, FormulaFields};
 use rows::route::Route;
 use sheet::state::Sheet;
@@ -23,9 +23,13 @@ fn label_all<S: System>(
 }
 
 /// Runs the job on its system, and gives its report.
-pub(crate) fn run<S: System>(heap: Global, job: &Job<'_>, system: &S) -> Result<Vec<u8>, Stop> {
-    let (actions, _) = job.actions.as_chunks::<3>();
-    let (formulas, _) = job.formulas.as_chunks::<5>();
+pub(crate) fn run<S: System>(
+    heap: Global,
+    sound: &SoundJob<'_>,
+    system: &S,
+) -> Result<Vec<u8>, Stop> {
+    let (actions, _) = sound.job.actions.as_chunks::<3>();
+    let (formulas, _) = sound.job.formulas.as_chunks::<5>();
     let mut sheet = Sheet::new(heap)?;
     let states = system.count();
     sheet.begin(states)?;
@@ -35,7 +39,7 @@ pub(crate) fn run<S: System>(heap: Global, job: &Job<'_>, system: &S) -> Result<
     formulas
         .iter()
         .try_for_each(|row| sheet.enter(FormulaFields::from(*row)).map(|_| ()))?;
-    if job.route == Route::Translated {
+    if sound.job.route == Route::Translated {
         return Err(Stop::Without(Unanswered::Translated));
     }
     let rows = formulas.len();

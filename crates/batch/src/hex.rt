@@ -19,10 +19,11 @@ fn digit(byte: u8) -> Option<u8>
 /// The bytes of a text of pairs of digits.
 pub fn from_hex(heap: Global, text: &[u8]) -> anyhow::Result<Vec<u8>> {
     let (pairs, rest) = text.as_chunks::<2>();
+    // Taken first: want of memory is told before a line that is none.
+    let mut bytes = Vec::with_capacity(heap, pairs.len())?;
     if !rest.is_empty() {
         bail!("a line is not hexadecimal");
     }
-    let mut bytes = Vec::with_capacity(heap, pairs.len())?;
     for [high, low] in pairs {
         let (Some(high), Some(low)) = (digit(*high), digit(*low)) else {
             bail!("a line is not hexadecimal");

@@ -2,7 +2,7 @@
 ghost use Rattle.std.specs.Prelude.{◌≡◌, Some};
 ghost use Rattle.faults.specs.Numbers.{layer, number, place, FaultCoded};
 ghost use Rattle.faults.specs.Record.{fault_record, ReadsRecord};
-ghost use Rattle.faults.specs.Words.{fault_in_words};
+ghost use Rattle.faults.specs.Words.{fault_in_words, no_record_in_words};
 ghost use Rattle.faults.specs.declared.fault.Fault.TheVariants as carried;
 
 use crate::job::JobFault;
@@ -62,6 +62,8 @@ impl Error for Fault {}
 pub struct NoRecord;
 
 impl fmt::Display for NoRecord {
+    ghost output = { λ _. Some no_record_in_words };
+
     fn fmt<W: fmt::Write>(&self, f: &mut fmt::Formatter<W>) -> fmt::Result {
         f.write_str("the bytes are no fault's record")
     }

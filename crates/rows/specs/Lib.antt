@@ -3,3 +3,4 @@ pub mod Rows
 pub mod Tests
 pub mod Tester
 pub mod RouteNumber
+pub mod Words

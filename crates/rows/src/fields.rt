@@ -1,6 +1,7 @@
 //! The bytes by which a row is entered.
 ghost use Rattle.rows.specs.Fields.{bytes_of_action, bytes_of_formula};
-ghost use Rattle.std.specs.Prelude.{◌≡◌};
+ghost use Rattle.rows.specs.Words.{unknown_kind_in_words};
+ghost use Rattle.std.specs.Prelude.{◌≡◌, Some};
 
 use std::error::Error;
 use std::fmt;
@@ -53,6 +54,8 @@ impl From<[u8; 5]> for FormulaFields {
 }
 
 impl fmt::Display for UnknownKind {
+    ghost output = { λ e. Some (unknown_kind_in_words e) };
+
     fn fmt<W: fmt::Write>(&self, f: &mut fmt::Formatter<W>) -> fmt::Result {
         write!(f, "no row has kind {}", self.0)
     }

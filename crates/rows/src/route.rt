@@ -1,6 +1,7 @@
 //! The two routes by which a row is labelled.
-ghost use Rattle.std.specs.Prelude.{◌≡◌};
+ghost use Rattle.std.specs.Prelude.{◌≡◌, Some};
 ghost use Rattle.rows.specs.RouteNumber.{route_number, Numbers};
+ghost use Rattle.rows.specs.Words.{unknown_route_in_words};
 
 use std::error::Error;
 use std::fmt;
@@ -44,6 +45,8 @@ impl TryFrom<u8> for Route {
 }
 
 impl fmt::Display for UnknownRoute {
+    ghost output = { λ e. Some (unknown_route_in_words e) };
+
     fn fmt<W: fmt::Write>(&self, f: &mut fmt::Formatter<W>) -> fmt::Result {
         write!(f, "no route has number {}", self.0)
     }

@@ -3,6 +3,8 @@ pub mod Node
 pub mod Translated
 pub mod TranslationSound
 pub mod Meaning
+pub mod MeaningSound
 pub mod Laid
 pub mod Answered
 pub mod Labelled
+pub mod Words

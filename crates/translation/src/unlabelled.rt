@@ -1,4 +1,7 @@
 //! Why a row is not labelled.
+ghost use Rattle.std.specs.Prelude.{Some};
+ghost use Rattle.translation.specs.Words.{unlabelled_in_words};
+
 use std::error::Error;
 use std::fmt;
 
@@ -16,6 +19,8 @@ pub enum Unlabelled {
 }
 
 impl fmt::Display for Unlabelled {
+    ghost output = { λ why. Some (unlabelled_in_words why) };
+
     fn fmt<W: fmt::Write>(&self, f: &mut fmt::Formatter<W>) -> fmt::Result {
         match self {
             Unlabelled::Column => write!(f, "the column's length is not the number of states"),
